@@ -1,0 +1,197 @@
+-- The laws of a choice. `picks` proves the choices that code makes: at each test of a chain it goes the way that the facts at hand
+-- allow. `decide-all` and `decide-both` take a list of rules apart for a theorem: what holds of each refusal, and of what is left when
+-- no test held, holds of the decision.
+-- Assumes nothing.
+use Prim.Native.Nat.{ℕ, _≤_, _<_}
+use mathlib.Core.Path.{_≡_, refl, sym, ap, _∙_}
+use mathlib.Core.Bool.{Bool, true, false, true≢false, false≢true}
+use mathlib.Core.List.{List, [], _∷_}
+use lib.Dec.{ltb, leb, eqb}
+use borrow.Author.Tests.{lt-ltb, le-ltb, le-leb, lt-leb, eq-eqb, ne-eqb, eqb-true, eqb-false}
+use Rattle.rules.specs.Choice.{no, _≠ᵇ_, _or_, _and_, pick, decide, all, named}
+
+-- ** the value of a test from a fact
+
+pub no-true : (t : Bool) → t ≡ false → no t ≡ true
+unfolding no
+no-true t e = rw e
+
+pub no-false : (t : Bool) → t ≡ true → no t ≡ false
+unfolding no
+no-false t e = rw e
+
+pub ne-neb : (m n : ℕ) → (m ≡ n → ⊥) → (m ≠ᵇ n) ≡ true
+unfolding _≠ᵇ_
+ne-neb m n h = no-true _ (ne-eqb m n h)
+
+pub eq-neb : (m n : ℕ) → m ≡ n → (m ≠ᵇ n) ≡ false
+unfolding _≠ᵇ_
+eq-neb m n h = no-false _ (eq-eqb m n h)
+
+pub or-left : (a b : Bool) → a ≡ true → (a or b) ≡ true
+unfolding _or_
+or-left a b e = rw e
+
+pub or-right : (a b : Bool) → b ≡ true → (a or b) ≡ true
+unfolding _or_
+or-right true b e = refl
+or-right false b e = e
+
+pub or-none : (a b : Bool) → a ≡ false → b ≡ false → (a or b) ≡ false
+unfolding _or_
+or-none a b e f = rw (e, f)
+
+pub and-both : (a b : Bool) → a ≡ true → b ≡ true → (a and b) ≡ true
+unfolding _and_
+and-both a b e f = rw (e, f)
+
+pub and-left : (a b : Bool) → a ≡ false → (a and b) ≡ false
+unfolding _and_
+and-left a b e = rw e
+
+pub and-right : (a b : Bool) → b ≡ false → (a and b) ≡ false
+unfolding _and_
+and-right true b e = e
+and-right false b e = refl
+
+-- the same by a number or a flag `k` that a call returned
+pub told-true : (k t : Bool) → k ≡ t → k ≡ true → t ≡ true
+told-true k t d e = sym d ∙ e
+
+pub told-false : (k t : Bool) → k ≡ t → k ≡ false → t ≡ false
+told-false k t d e = sym d ∙ e
+
+pub told-eq : (k m n : ℕ) → k ≡ m → k ≡ n → eqb m n ≡ true
+told-eq k m n d e = eq-eqb m n (sym d ∙ e)
+
+pub told-ne : (k m n : ℕ) → k ≡ m → (k ≡ n → ⊥) → eqb m n ≡ false
+told-ne k m n d e = ne-eqb m n (λ q. e (d ∙ q))
+
+-- ** the fact from the value of a test
+
+pub is-no : (t : Bool) → no t ≡ true → t ≡ false
+unfolding no
+is-no true e = absurd (false≢true e)
+is-no false e = refl
+
+pub not-no : (t : Bool) → no t ≡ false → t ≡ true
+unfolding no
+not-no true e = refl
+not-no false e = absurd (true≢false e)
+
+pub neb-ne : (m n : ℕ) → (m ≠ᵇ n) ≡ true → m ≡ n → ⊥
+unfolding _≠ᵇ_
+neb-ne m n e = eqb-false m n (is-no (eqb m n) e)
+
+pub neb-eq : (m n : ℕ) → (m ≠ᵇ n) ≡ false → m ≡ n
+unfolding _≠ᵇ_
+neb-eq m n e = eqb-true m n (not-no (eqb m n) e)
+
+pub none-left : (a b : Bool) → (a or b) ≡ false → a ≡ false
+unfolding _or_
+none-left true b e = absurd (true≢false e)
+none-left false b e = refl
+
+pub none-right : (a b : Bool) → (a or b) ≡ false → b ≡ false
+unfolding _or_
+none-right true b e = absurd (true≢false e)
+none-right false b e = e
+
+pub both-left : (a b : Bool) → (a and b) ≡ true → a ≡ true
+unfolding _and_
+both-left true b e = refl
+both-left false b e = absurd (false≢true e)
+
+pub both-right : (a b : Bool) → (a and b) ≡ true → b ≡ true
+unfolding _and_
+both-right true b e = e
+both-right false b e = absurd (false≢true e)
+
+pub not-both : (a b : Bool) → (a and b) ≡ false → a ≡ true → b ≡ false
+unfolding _and_
+not-both true b e h = e
+not-both false b e h = absurd (false≢true h)
+
+-- ** one choice
+
+module _ {A : Type 0} (x a b : A) where
+  pub pick-true : (t : Bool) → t ≡ true → x ≡ a → x ≡ pick t a b
+  unfolding pick
+  pick-true t e h = rw e h
+
+  pub pick-false : (t : Bool) → t ≡ false → x ≡ b → x ≡ pick t a b
+  unfolding pick
+  pick-false t e h = rw e h
+
+  -- of a `match`: the number is the literal `k`, and so is not the literal `n`
+  pub by-key : (k m n : ℕ) → m ≡ k → eqb k n ≡ false → x ≡ b → x ≡ pick (eqb m n) a b
+  by-key k m n d e h = pick-false (eqb m n) (ap (λ (j : ℕ). eqb j n) d ∙ e) h
+
+pub ruleset tests = (ne-neb, eq-neb, eq-eqb, ne-eqb, lt-ltb, le-ltb, le-leb, lt-leb, no-true, no-false, or-none, or-left, or-right, and-both, and-left, and-right, told-eq, told-ne, told-true, told-false)
+
+pub ruleset picks = (by-key, pick-true, pick-false, tests)
+
+pub at-true : {A : Type 0} (t : Bool) (a b : A) → t ≡ true → pick t a b ≡ a
+unfolding pick
+at-true t a b e = rw e
+
+pub at-false : {A : Type 0} (t : Bool) (a b : A) → t ≡ false → pick t a b ≡ b
+unfolding pick
+at-false t a b e = rw e
+
+-- what holds of each way holds of the choice
+pub pick-all {κ} : {A : Type 0} (P : A → Type κ) (t : Bool) (a b : A) → (t ≡ true → P a) → (t ≡ false → P b) → P (pick t a b)
+unfolding pick
+pick-all P true a b f g = f refl
+pick-all P false a b f g = g refl
+
+-- the same for two choices by one test
+pub pick-both {κ} : {A B : Type 0} (R : A → B → Type κ) (t : Bool) (a b : A) (v w : B) → (t ≡ true → R a v) → (t ≡ false → R b w) → R (pick t a b) (pick t v w)
+unfolding pick
+pick-both R true a b v w f g = f refl
+pick-both R false a b v w f g = g refl
+
+-- ** lists of rules
+
+-- no test of the list held
+abbrev pub NoneOf : {A : Type 0} → List (Bool × A) → Type 0
+NoneOf [] = Unit {0}
+NoneOf (r ∷ rs) = (r .0 ≡ false) × NoneOf rs
+
+-- P of each thing that a list of rules can decide on
+abbrev pub Each : {A : Type 0} → (A → Type 0) → List A → Type 0
+Each P [] = Unit {0}
+Each P (a ∷ rest) = P a × Each P rest
+
+pub decide-all : {A B : Type 0} (P : B → Type 0) (f : A → B) (rs : List (Bool × A)) (z : B) → Each (λ (a : A). P (f a)) (named rs) → (NoneOf rs → P z) → P (decide f rs z)
+decide-all P f [] z e h = h tt
+decide-all P f (r ∷ rs) z e h = pick-all P (r .0) _ _ (λ _. e .0) (λ n. decide-all P f rs z (e .1) (λ ns. h (n, ns)))
+
+pub decide-both : {A B C : Type 0} (R : B → C → Type 0) (f : A → B) (g : A → C) (rs : List (Bool × A)) (z : B) (w : C)
+    → ((a : A) → R (f a) (g a)) → (NoneOf rs → R z w) → R (decide f rs z) (decide g rs w)
+decide-both R f g [] z w e h = h tt
+decide-both R f g (r ∷ rs) z w e h = pick-both R (r .0) _ _ _ _ (λ _. e (r .1)) (λ n. decide-both R f g rs z w e (λ ns. h (n, ns)))
+
+-- a decision that none of the rules can have made
+pub decide-none : {A B : Type 0} (f : A → B) (rs : List (Bool × A)) (z : B) → NoneOf rs → decide f rs z ≡ z
+decide-none f [] z h = refl
+decide-none f (r ∷ rs) z h = at-false (r .0) _ _ (h .0) ∙ decide-none f rs z (h .1)
+
+-- ** lists of tests
+
+abbrev pub AllOf : List Bool → Type 0
+AllOf [] = Unit {0}
+AllOf (t ∷ ts) = (t ≡ true) × AllOf ts
+
+both-held : (t rest : Bool) → pick t rest false ≡ true → (t ≡ true) × (rest ≡ true)
+unfolding pick
+both-held true rest e = (refl, e)
+both-held false rest e = absurd (false≢true e)
+
+pub all-of : (ts : List Bool) → all ts ≡ true → AllOf ts
+all-of [] e = tt
+all-of (t ∷ ts) e = let h = both-held t (all ts) e in (h .0, all-of ts (h .1))
+
+pub of-all : (ts : List Bool) → AllOf ts → all ts ≡ true
+of-all [] h = refl
+of-all (t ∷ ts) h = at-true t _ _ (h .0) ∙ of-all ts (h .1)

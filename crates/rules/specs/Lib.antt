@@ -1,0 +1,3 @@
+-- The lowest layer: how a rule is written, and the paper's tables of numbers.
+pub mod Choice
+pub mod Answers

@@ -1,0 +1,105 @@
+-- When a unit is sound: a test over the small parts, which reads no store. What a closed transfer leaves unused is 0, so that units that
+-- behave alike are alike but for bytes of the stores and the place of the reply in its store.
+-- Assumes nothing.
+use Prim.Native.Nat.{ℕ, _+_}
+use mathlib.Core.Bool.{Bool}
+use mathlib.Core.List.{List, []}
+use Rattle.rules.specs.Choice.{_=ᵇ_, _≠ᵇ_, _≤ᵇ_, no, _or_, pick, _&_, all, implies}
+use Rattle.wire.specs.Header.{OFF, ON}
+use Rattle.state.specs.Parts.{STORE, isSize, CLOSED, ASKED, SENDING, OWED, on, isOpenOut, isOwed, outOf, inOf}
+use Rattle.state.specs.declared.types.Port.{Port}
+use Rattle.state.specs.declared.types.BulkOut.{BulkOut}
+use Rattle.state.specs.declared.types.BulkIn.{BulkIn}
+use Rattle.state.specs.declared.types.Split.{Split}
+use Rattle.state.specs.declared.types.Split.the-variants.{None, AbortOut, AbortIn, Clear}
+use Rattle.state.specs.declared.types.State.{State}
+
+abbrev pub isFlag : ℕ → Bool
+isFlag n = n ≤ᵇ ON
+
+unfoldable pub portSound : Port → Bool
+portSound p = all (isSize (p .setting .packet) & isFlag (p .configured) & isFlag (p .ren) & [])
+
+-- a halt or a ready message excludes an open transfer, whose bytes to come have room behind those that are held
+unfoldable pub openSound : BulkOut → Bool
+openSound o =
+    all
+    (o .halted =ᵇ OFF &
+     o .ready =ᵇ OFF &
+     isFlag (o .end) &
+     o .recent ≠ᵇ 0 &
+     o .got ≠ᵇ 0 &
+     o .got ≤ᵇ o .held &
+     o .held + o .left ≤ᵇ STORE & [])
+
+-- a ready message has a byte; a halted Bulk-OUT holds no part of an unfinished one
+unfoldable pub restingSound : BulkOut → Bool
+restingSound o =
+    all
+    (isFlag (o .halted) &
+     isFlag (o .ready) &
+     o .end =ᵇ OFF &
+     o .got =ᵇ 0 &
+     o .held ≤ᵇ STORE &
+     pick (on (o .ready)) (o .held ≠ᵇ 0) (implies (on (o .halted)) (o .held =ᵇ 0)) & [])
+
+unfoldable pub outSound : BulkOut → Bool
+outSound o = pick (isOpenOut o) (openSound o) (restingSound o)
+
+-- what a phase leaves unused is 0; what it uses is in range
+abbrev pub unasked : BulkIn → List Bool → List Bool
+unasked b more = b .asked =ᵇ 0 & b .enabled =ᵇ OFF & b .term =ᵇ 0 & more
+
+abbrev pub unsending : BulkIn → List Bool → List Bool
+unsending b more = b .left =ᵇ 0 & b .sent =ᵇ 0 & more
+
+unfoldable pub askedSound : BulkIn → Bool
+askedSound b =
+    all
+    (b .tag ≠ᵇ 0 &
+     b .asked ≠ᵇ 0 &
+     b .asked ≤ᵇ STORE &
+     isFlag (b .enabled) &
+     implies (b .enabled =ᵇ OFF) (b .term =ᵇ 0) &
+     unsending b [])
+
+unfoldable pub sendingSound : BulkIn → Bool
+sendingSound b = all (b .tag ≠ᵇ 0 & b .left ≤ᵇ b .unsent & b .sent + b .left ≤ᵇ STORE & unasked b [])
+
+unfoldable pub owedSound : BulkIn → Bool
+owedSound b = all (b .tag ≠ᵇ 0 & b .phase =ᵇ OWED & unasked b (unsending b []))
+
+unfoldable pub closedSound : BulkIn → Bool
+closedSound b = all (b .tag =ᵇ 0 & unasked b (unsending b []))
+
+unfoldable pub inSound : BulkIn → Bool
+inSound b =
+    all
+    (isFlag (b .halted) &
+     b .at + b .unsent ≤ᵇ STORE &
+     pick (b .phase =ᵇ CLOSED) (closedSound b)
+     (pick (b .phase =ᵇ ASKED) (askedSound b)
+     (pick (b .phase =ᵇ SENDING) (sendingSound b) (owedSound b))) & [])
+
+-- a packet is owed only in abort-IN or clear; an abort-OUT keeps the halt; a clear has Bulk-OUT halted, nothing held, no reply, no
+-- recent tag, and an IN transfer open only while its packet is owed
+unfoldable pub splitSound : Split → BulkOut → BulkIn → Bool
+splitSound None o b = no (isOwed b)
+splitSound (AbortOut n) o b = all (n ≤ᵇ STORE & on (o .halted) & no (isOwed b) & [])
+splitSound (AbortIn n) o b = n ≤ᵇ STORE
+splitSound Clear o b =
+    all
+    (on (o .halted) &
+     o .held =ᵇ 0 &
+     o .recent =ᵇ 0 &
+     b .unsent =ᵇ 0 &
+     b .recent =ᵇ 0 &
+     (b .phase =ᵇ CLOSED or isOwed b) & [])
+
+unfoldable pub sound : State → Bool
+sound st =
+    all
+    (portSound (st .small .port) &
+     outSound (outOf st) &
+     inSound (inOf st) &
+     splitSound (st .split) (outOf st) (inOf st) & [])

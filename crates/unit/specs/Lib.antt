@@ -1,0 +1,5 @@
+-- The unit: its calls, a run of them, and what of it counts.
+pub mod Unit
+pub mod Calls
+pub mod Step
+pub mod Live

@@ -1,0 +1,20 @@
+// The unit, and what its calls hand back.
+use state::types::Remote;
+use state::types::Small;
+use state::types::Split;
+
+// A unit: its two stores, the small parts, and beside them the split in progress and the remote/local state.
+pub struct Unit {
+    pub message: [u8; 1024],
+    pub reply: [u8; 1024],
+    pub small: Small,
+    pub split: Split,
+    pub remote: Remote,
+}
+
+// The unit after a call that writes no lent buffer, with the number and what the answer tells.
+pub struct Done {
+    pub unit: Unit,
+    pub number: u8,
+    pub tells: u8,
+}

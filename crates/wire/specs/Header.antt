@@ -1,0 +1,120 @@
+-- Bulk headers. On Bulk-OUT: what the twelve bytes say, and the first of 6, 7, 8, 9 and 10 that applies to them. On Bulk-IN: the twelve bytes.
+-- Assumes nothing.
+use Prim.Native.Nat.{ℕ, _+_, _-_, _*_, _/_, _%_}
+use mathlib.Core.Bool.{Bool}
+use mathlib.Core.List.{List, [], _∷_, _++_}
+use lib.ListN.{length}
+use Rattle.rules.specs.Choice.{_=ᵇ_, _≠ᵇ_, _<ᵇ_, no, _or_, pick, _⇒_∣_, decide}
+use Rattle.rules.specs.Answers.{NOT-IN-FOURS, SHORT-HEADER, BAD-TAG, UNKNOWN-MSGID, RESERVED}
+use Rattle.wire.specs.Bytes.{byte, number4, bytes4, zeros}
+use Rattle.wire.specs.declared.types.Header.{Header}
+use Rattle.wire.specs.declared.types.Header.the-variants.{Message, Request, Trigger}
+use Rattle.wire.specs.declared.types.Read.{Read}
+use Rattle.wire.specs.declared.types.Read.the-variants.{Good, Fault}
+
+-- "A header is 12 bytes"
+abbrev pub HEADER : ℕ
+HEADER = 12
+
+-- "up to a multiple of 4"
+abbrev pub FOUR : ℕ
+FOUR = 4
+
+abbrev pub aligned : ℕ → ℕ
+aligned n = (n + (FOUR - 1)) / FOUR * FOUR
+
+abbrev pub DEV-DEP-MSG-OUT : ℕ
+DEV-DEP-MSG-OUT = 1
+
+abbrev pub REQUEST-DEV-DEP-MSG-IN : ℕ
+REQUEST-DEV-DEP-MSG-IN = 2
+
+abbrev pub TRIGGER : ℕ
+TRIGGER = 128
+
+-- "MsgID, bTag, bTagInverse, 0, then eight bytes by MsgID": "TransferSize (4), attributes", "TermChar"
+abbrev pub MsgID : List ℕ → ℕ
+MsgID s = byte s 0
+
+abbrev pub bTag : List ℕ → ℕ
+bTag s = byte s 1
+
+abbrev pub bTagInverse : List ℕ → ℕ
+bTagInverse s = byte s 2
+
+abbrev pub TransferSize : List ℕ → ℕ
+TransferSize s = number4 s 4
+
+abbrev pub attributes : List ℕ → ℕ
+attributes s = byte s 8
+
+abbrev pub TermChar : List ℕ → ℕ
+TermChar s = byte s 9
+
+-- the bits of the attributes
+abbrev pub D0 : ℕ
+D0 = 1
+
+abbrev pub D1 : ℕ
+D1 = 2
+
+-- "255 minus byte 1"
+abbrev pub inverse : ℕ → ℕ
+inverse tag = 255 - tag
+
+-- a flag of the unit
+abbrev pub OFF : ℕ
+OFF = 0
+
+abbrev pub ON : ℕ
+ON = 1
+
+-- ** on Bulk-OUT
+
+-- "attributes with only D0 = EOM, three 0"
+unfoldable pub readMessage : List ℕ → Read
+readMessage s =
+    decide Fault
+    (byte s 3 ≠ᵇ 0 ⇒ RESERVED ∣
+     TransferSize s =ᵇ 0 ⇒ RESERVED ∣
+     D0 <ᵇ attributes s ⇒ RESERVED ∣
+     no (zeros s 9 HEADER) ⇒ RESERVED ∣ [])
+    (Good (Message (bTag s) (TransferSize s) (attributes s)))
+
+-- "attributes with only D1 = TermCharEnabled, TermChar (ignored unless enabled), two 0"
+abbrev pub requestEnd : List ℕ → ℕ → ℕ → ℕ → Read
+requestEnd s size enabled term = decide Fault (no (zeros s 10 HEADER) ⇒ RESERVED ∣ []) (Good (Request (bTag s) size enabled term))
+
+unfoldable pub readRequest : List ℕ → Read
+readRequest s =
+    decide Fault
+    (byte s 3 ≠ᵇ 0 ⇒ RESERVED ∣
+     TransferSize s =ᵇ 0 ⇒ RESERVED ∣
+     no (attributes s =ᵇ 0 or attributes s =ᵇ D1) ⇒ RESERVED ∣ [])
+    (pick (attributes s =ᵇ 0) (requestEnd s (TransferSize s) OFF 0) (requestEnd s (TransferSize s) ON (TermChar s)))
+
+-- "eight 0"
+unfoldable pub readTrigger : List ℕ → Read
+readTrigger s = decide Fault (no (zeros s 3 HEADER) ⇒ RESERVED ∣ []) (Good (Trigger (bTag s)))
+
+abbrev pub known : List ℕ → Bool
+known s = MsgID s =ᵇ DEV-DEP-MSG-OUT or MsgID s =ᵇ REQUEST-DEV-DEP-MSG-IN or MsgID s =ᵇ TRIGGER
+
+-- "a header then goes 6, 7, 8, 9, 10": the tenth by MsgID
+unfoldable pub readHeader : List ℕ → Read
+readHeader s =
+    decide Fault
+    (length s % FOUR ≠ᵇ 0 ⇒ NOT-IN-FOURS ∣
+     length s <ᵇ HEADER ⇒ SHORT-HEADER ∣
+     bTag s =ᵇ 0 or bTagInverse s ≠ᵇ inverse (bTag s) ⇒ BAD-TAG ∣
+     no (known s) ⇒ UNKNOWN-MSGID ∣ [])
+    (pick (MsgID s =ᵇ DEV-DEP-MSG-OUT) (readMessage s)
+    (pick (MsgID s =ᵇ REQUEST-DEV-DEP-MSG-IN) (readRequest s)
+    (readTrigger s)))
+
+-- ** on Bulk-IN
+
+-- "The header is 2, bTag, inverse, 0, N, attributes, three 0"
+unfoldable pub inHeader : ℕ → ℕ → ℕ → List ℕ
+inHeader tag n attrs =
+    (REQUEST-DEV-DEP-MSG-IN ∷ tag ∷ inverse tag ∷ 0 ∷ []) ++ bytes4 n ++ (attrs ∷ 0 ∷ 0 ∷ 0 ∷ [])

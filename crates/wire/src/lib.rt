@@ -1,0 +1,4 @@
+// Bytes and what they say, with no unit in sight.
+pub mod header; // a Bulk-OUT header: what it says, or its first fault
+pub mod numbers; // numbers of four bytes, and runs of zero bytes
+pub mod types; // what a header and a setup packet can say

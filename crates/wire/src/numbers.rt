@@ -1,0 +1,46 @@
+// Numbers of four bytes, least significant first, and runs of zero bytes.
+ghost use mathlib.Core.Path.{_≡_};
+ghost use Prim.Native.Nat.{ℕ, _+_, _<_, _≤_};
+ghost use lib.ListN.{length};
+ghost use Rattle.wire.specs.Bytes.{number2, number4, zeros};
+
+fn wide(x: u8) -> u32
+    ensures { λ r. ⌜ (r ≡ x) × (r < 256) ⌝ }
+{
+    x as u32
+}
+
+// The number in the two bytes from `at` on.
+pub fn le_u16(s: &[u8], at: usize) -> u32
+    requires { ⌜ at + 2 ≤ length (now s) ⌝ }
+    ensures { λ r. ⌜ (r ≡ number2 (now (s .entry)) at) × (r < 65536) ⌝ }
+{
+    let a = wide(s[at]);
+    let b = wide(s[at + 1]);
+    a + 256 * b
+}
+
+// The number in the four bytes from `at` on.
+pub fn le_u32(s: &[u8], at: usize) -> u32
+    requires { ⌜ at + 4 ≤ length (now s) ⌝ }
+    ensures { λ r. ⌜ r ≡ number4 (now (s .entry)) at ⌝ }
+{
+    let low = le_u16(s, at);
+    let high = le_u16(s, at + 2);
+    low + 65536 * high
+}
+
+// Whether the bytes from `a` up to, and not with, `e` are all 0.
+pub fn all_zero(s: &[u8], a: usize, e: usize) -> bool
+    requires { ⌜ (a ≤ e) × (e ≤ length (now s)) ⌝ }
+    ensures { λ r. ⌜ r ≡ zeros (now (s .entry)) a e ⌝ }
+{
+    let mut i = a;
+    while i < e {
+        if s[i] != 0 {
+            return false;
+        }
+        i += 1;
+    }
+    true
+}
