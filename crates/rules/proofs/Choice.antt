@@ -2,13 +2,14 @@
 -- allow. `decide-all` and `decide-both` take a list of rules apart for a theorem: what holds of each refusal, and of what is left when
 -- no test held, holds of the decision.
 -- Assumes nothing.
-use Prim.Native.Nat.{ℕ, _≤_, _<_}
+use Prim.Native.Nat.{ℕ, zero, suc, _≤_, _<_}
 use mathlib.Core.Path.{_≡_, refl, sym, ap, _∙_}
 use mathlib.Core.Bool.{Bool, true, false, true≢false, false≢true}
 use mathlib.Core.List.{List, [], _∷_}
-use lib.Dec.{ltb, leb, eqb}
+use native.Mathlib.Omega.{arith}
+use lib.Dec.{T, ltb, leb, eqb}
 use borrow.Author.Tests.{lt-ltb, le-ltb, le-leb, lt-leb, eq-eqb, ne-eqb, eqb-true, eqb-false}
-use Rattle.rules.specs.Choice.{no, _≠ᵇ_, _or_, _and_, pick, decide, all, named}
+use Rattle.rules.specs.Choice.{no, _≠ᵇ_, _or_, _and_, pick, decide, first, all, named}
 
 -- ** the value of a test from a fact
 
@@ -41,6 +42,11 @@ pub or-none : (a b : Bool) → a ≡ false → b ≡ false → (a or b) ≡ fals
 unfolding _or_
 or-none a b e f = rw (e, f)
 
+-- where the first does not hold, the second decides
+pub or-false : (a b : Bool) → a ≡ false → (a or b) ≡ b
+unfolding _or_
+or-false a b e = rw e
+
 pub and-both : (a b : Bool) → a ≡ true → b ≡ true → (a and b) ≡ true
 unfolding _and_
 and-both a b e f = rw (e, f)
@@ -66,6 +72,12 @@ told-eq k m n d e = eq-eqb m n (sym d ∙ e)
 
 pub told-ne : (k m n : ℕ) → k ≡ m → (k ≡ n → ⊥) → eqb m n ≡ false
 told-ne k m n d e = ne-eqb m n (λ q. e (d ∙ q))
+
+pub told-lt : (k m n : ℕ) → k ≡ m → k < n → ltb m n ≡ true
+told-lt k m n d e = ap (λ (j : ℕ). ltb j n) (sym d) ∙ lt-ltb k n e
+
+pub told-ge : (k m n : ℕ) → k ≡ m → n ≤ k → ltb m n ≡ false
+told-ge k m n d e = ap (λ (j : ℕ). ltb j n) (sym d) ∙ le-ltb k n e
 
 -- ** the fact from the value of a test
 
@@ -127,9 +139,15 @@ module _ {A : Type 0} (x a b : A) where
   pub by-key : (k m n : ℕ) → m ≡ k → eqb k n ≡ false → x ≡ b → x ≡ pick (eqb m n) a b
   by-key k m n d e h = pick-false (eqb m n) (ap (λ (j : ℕ). eqb j n) d ∙ e) h
 
-pub ruleset tests = (ne-neb, eq-neb, eq-eqb, ne-eqb, lt-ltb, le-ltb, le-leb, lt-leb, no-true, no-false, or-none, or-left, or-right, and-both, and-left, and-right, told-eq, told-ne, told-true, told-false)
+-- the last test of a list is the answer itself
+pub pick-self : (k t : Bool) → k ≡ t → k ≡ pick t true false
+unfolding pick
+pick-self k true e = e
+pick-self k false e = e
 
-pub ruleset picks = (by-key, pick-true, pick-false, tests)
+pub ruleset tests = (ne-neb, eq-neb, eq-eqb, ne-eqb, lt-ltb, le-ltb, le-leb, lt-leb, no-true, no-false, or-none, or-left, or-right, and-both, and-left, and-right, told-eq, told-ne, told-lt, told-ge, told-true, told-false)
+
+pub ruleset picks = (pick-self, by-key, pick-true, pick-false, tests)
 
 pub at-true : {A : Type 0} (t : Bool) (a b : A) → t ≡ true → pick t a b ≡ a
 unfolding pick
@@ -176,6 +194,34 @@ decide-both R f g (r ∷ rs) z w e h = pick-both R (r .0) _ _ _ _ (λ _. e (r .1
 pub decide-none : {A B : Type 0} (f : A → B) (rs : List (Bool × A)) (z : B) → NoneOf rs → decide f rs z ≡ z
 decide-none f [] z h = refl
 decide-none f (r ∷ rs) z h = at-false (r .0) _ _ (h .0) ∙ decide-none f rs z (h .1)
+
+-- no number of the list is 0, as a test that computes
+abbrev pub counted : List ℕ → Bool
+counted [] = true
+counted (zero ∷ ns) = false
+counted (suc n ∷ ns) = counted ns
+
+-- the same by the number `n` of a function that goes through the list and gives 0 where none applies: no rule's number is 0
+Decided : {B : Type 0} → (ℕ → B) → ℕ → B → B → Type 0
+Decided f n d z = ((n ≡ 0 → ⊥) → f n ≡ d) × (n ≡ 0 → z ≡ d)
+
+decided : {B : Type 0} (f : ℕ → B) (rs : List (Bool × ℕ)) (z : B) → T (counted (named rs)) → Decided f (first rs 0) (decide f rs z) z
+unfolding Decided
+decided f [] z h = (λ e. absurd (e refl), λ _. refl)
+decided f (r ∷ rs) z h = one (r .0) (r .1) h (decided f rs z)
+  where
+    one : (t : Bool) (k : ℕ) → T (counted (k ∷ named rs)) → (T (counted (named rs)) → Decided f (first rs 0) (decide f rs z) z)
+        → Decided f (pick t k (first rs 0)) (pick t (f k) (decide f rs z)) z
+    one t zero h d = absurd h
+    one t (suc k) h d = pick-both (λ n e. Decided f n e z) t _ _ _ _ (λ _. (λ _. refl, λ e. let x : _≡_ {A = ℕ} 0 1 = cc in absurd (omega arith))) (λ _. d h)
+
+pub refuses : {B : Type 0} (f : ℕ → B) (rs : List (Bool × ℕ)) (z : B) (n : ℕ) → T (counted (named rs)) → n ≡ first rs 0 → (n ≡ 0 → ⊥) → f n ≡ decide f rs z
+unfolding Decided
+refuses f rs z n h e = rw e (decided f rs z h .0)
+
+pub passes : {B : Type 0} (f : ℕ → B) (rs : List (Bool × ℕ)) (z : B) (n : ℕ) → T (counted (named rs)) → n ≡ first rs 0 → n ≡ 0 → z ≡ decide f rs z
+unfolding Decided
+passes f rs z n h e = rw e (decided f rs z h .1)
 
 -- ** lists of tests
 

@@ -69,7 +69,7 @@ all (t ∷ ts) = pick t (all ts) false
 
 -- where the first holds, the second does too
 abbrev pub implies : Bool → Bool → Bool
-implies a b = pick a b true
+implies a b = no a or b
 
 -- what a list of rules can decide on
 abbrev pub named : {A : Type 0} → List (Bool × A) → List A

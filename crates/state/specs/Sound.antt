@@ -1,10 +1,10 @@
 -- When a unit is sound: a test over the small parts, which reads no store. What a closed transfer leaves unused is 0, so that units that
 -- behave alike are alike but for bytes of the stores and the place of the reply in its store.
 -- Assumes nothing.
-use Prim.Native.Nat.{ℕ, _+_}
-use mathlib.Core.Bool.{Bool}
+use Prim.Native.Nat.{ℕ, _-_}
+use mathlib.Core.Bool.{Bool, false}
 use mathlib.Core.List.{List, []}
-use Rattle.rules.specs.Choice.{_=ᵇ_, _≠ᵇ_, _≤ᵇ_, no, _or_, pick, _&_, all, implies}
+use Rattle.rules.specs.Choice.{_=ᵇ_, _≠ᵇ_, _≤ᵇ_, no, _or_, _and_, pick, _⇒_∣_, first, _&_, all, implies}
 use Rattle.wire.specs.Header.{OFF, ON}
 use Rattle.state.specs.Parts.{STORE, isSize, CLOSED, ASKED, SENDING, OWED, on, isOpenOut, isOwed, outOf, inOf}
 use Rattle.state.specs.declared.types.Port.{Port}
@@ -30,28 +30,32 @@ openSound o =
      o .recent ≠ᵇ 0 &
      o .got ≠ᵇ 0 &
      o .got ≤ᵇ o .held &
-     o .held + o .left ≤ᵇ STORE & [])
+     o .held ≤ᵇ STORE &
+     o .left ≤ᵇ STORE - o .held & [])
 
 -- a ready message has a byte; a halted Bulk-OUT holds no part of an unfinished one
+unfoldable pub heldSound : BulkOut → Bool
+heldSound o =
+    all
+    (implies (on (o .ready)) (o .held ≠ᵇ 0) &
+     implies (on (o .halted) and no (on (o .ready))) (o .held =ᵇ 0) & [])
+
 unfoldable pub restingSound : BulkOut → Bool
 restingSound o =
-    all
-    (isFlag (o .halted) &
-     isFlag (o .ready) &
-     o .end =ᵇ OFF &
-     o .got =ᵇ 0 &
-     o .held ≤ᵇ STORE &
-     pick (on (o .ready)) (o .held ≠ᵇ 0) (implies (on (o .halted)) (o .held =ᵇ 0)) & [])
+    all (isFlag (o .halted) & isFlag (o .ready) & o .end =ᵇ OFF & o .got =ᵇ 0 & o .held ≤ᵇ STORE & heldSound o & [])
 
 unfoldable pub outSound : BulkOut → Bool
 outSound o = pick (isOpenOut o) (openSound o) (restingSound o)
 
 -- what a phase leaves unused is 0; what it uses is in range
-abbrev pub unasked : BulkIn → List Bool → List Bool
-unasked b more = b .asked =ᵇ 0 & b .enabled =ᵇ OFF & b .term =ᵇ 0 & more
+unfoldable pub unasked : BulkIn → Bool
+unasked b = all (b .asked =ᵇ 0 & b .enabled =ᵇ OFF & b .term =ᵇ 0 & [])
 
-abbrev pub unsending : BulkIn → List Bool → List Bool
-unsending b more = b .left =ᵇ 0 & b .sent =ᵇ 0 & more
+unfoldable pub unsending : BulkIn → Bool
+unsending b = all (b .left =ᵇ 0 & b .sent =ᵇ 0 & [])
+
+unfoldable pub idle : BulkIn → Bool
+idle b = all (unasked b & unsending b & [])
 
 unfoldable pub askedSound : BulkIn → Bool
 askedSound b =
@@ -61,33 +65,27 @@ askedSound b =
      b .asked ≤ᵇ STORE &
      isFlag (b .enabled) &
      implies (b .enabled =ᵇ OFF) (b .term =ᵇ 0) &
-     unsending b [])
+     unsending b & [])
 
 unfoldable pub sendingSound : BulkIn → Bool
-sendingSound b = all (b .tag ≠ᵇ 0 & b .left ≤ᵇ b .unsent & b .sent + b .left ≤ᵇ STORE & unasked b [])
+sendingSound b =
+    all (b .tag ≠ᵇ 0 & b .left ≤ᵇ b .unsent & b .sent ≤ᵇ STORE & b .left ≤ᵇ STORE - b .sent & unasked b & [])
 
-unfoldable pub owedSound : BulkIn → Bool
-owedSound b = all (b .tag ≠ᵇ 0 & b .phase =ᵇ OWED & unasked b (unsending b []))
-
-unfoldable pub closedSound : BulkIn → Bool
-closedSound b = all (b .tag =ᵇ 0 & unasked b (unsending b []))
+unfoldable pub phaseSound : BulkIn → Bool
+phaseSound b =
+    first
+    (b .phase =ᵇ CLOSED ⇒ all (b .tag =ᵇ 0 & idle b & []) ∣
+     b .phase =ᵇ ASKED ⇒ askedSound b ∣
+     b .phase =ᵇ SENDING ⇒ sendingSound b ∣
+     b .phase =ᵇ OWED ⇒ all (b .tag ≠ᵇ 0 & idle b & []) ∣ [])
+    false
 
 unfoldable pub inSound : BulkIn → Bool
-inSound b =
-    all
-    (isFlag (b .halted) &
-     b .at + b .unsent ≤ᵇ STORE &
-     pick (b .phase =ᵇ CLOSED) (closedSound b)
-     (pick (b .phase =ᵇ ASKED) (askedSound b)
-     (pick (b .phase =ᵇ SENDING) (sendingSound b) (owedSound b))) & [])
+inSound b = all (isFlag (b .halted) & b .at ≤ᵇ STORE & b .unsent ≤ᵇ STORE - b .at & phaseSound b & [])
 
--- a packet is owed only in abort-IN or clear; an abort-OUT keeps the halt; a clear has Bulk-OUT halted, nothing held, no reply, no
--- recent tag, and an IN transfer open only while its packet is owed
-unfoldable pub splitSound : Split → BulkOut → BulkIn → Bool
-splitSound None o b = no (isOwed b)
-splitSound (AbortOut n) o b = all (n ≤ᵇ STORE & on (o .halted) & no (isOwed b) & [])
-splitSound (AbortIn n) o b = n ≤ᵇ STORE
-splitSound Clear o b =
+-- "a clear": Bulk-OUT halted, nothing held, no reply, both recent tags 0, and an IN transfer open only while its packet is owed
+unfoldable pub clearSound : BulkOut → BulkIn → Bool
+clearSound o b =
     all
     (on (o .halted) &
      o .held =ᵇ 0 &
@@ -95,6 +93,19 @@ splitSound Clear o b =
      b .unsent =ᵇ 0 &
      b .recent =ᵇ 0 &
      (b .phase =ᵇ CLOSED or isOwed b) & [])
+
+-- a packet is owed only in abort-IN or clear, and an abort-OUT keeps the halt
+unfoldable pub notOwed : BulkIn → Bool
+notOwed b = all (b .phase ≠ᵇ OWED & [])
+
+unfoldable pub abortOutSound : ℕ → BulkOut → BulkIn → Bool
+abortOutSound count o b = all (count ≤ᵇ STORE & on (o .halted) & notOwed b & [])
+
+unfoldable pub splitSound : Split → BulkOut → BulkIn → Bool
+splitSound None o b = notOwed b
+splitSound (AbortOut count) o b = abortOutSound count o b
+splitSound (AbortIn count) o b = count ≤ᵇ STORE
+splitSound Clear o b = clearSound o b
 
 unfoldable pub sound : State → Bool
 sound st =

@@ -1,4 +1,5 @@
 // The parts of a unit but for its two stores, and what is decided over them. Flags are 0 or 1: C shares these structs as they stand.
+use wire::types::Header;
 
 // What power-on is given.
 #[repr(C)]
@@ -75,7 +76,16 @@ pub struct State {
     pub remote: Remote,
 }
 
-// What a Bulk-OUT packet comes to: the state after it, the number, what it tells, and its data: `count` bytes from `from` on.
+// What a Bulk-OUT packet comes to: a number with nothing changed, a number with Bulk-OUT halted, data bytes of the open transfer, or a
+// header with its first data bytes.
+pub enum Outcome {
+    Keep { number: u8 },
+    Halt { number: u8 },
+    Data { count: usize },
+    Accept { header: Header, count: usize },
+}
+
+// What that leaves: the state after the packet, the number, what it tells, and its data: `count` bytes from `from` on.
 pub struct Plan {
     pub state: State,
     pub number: u8,

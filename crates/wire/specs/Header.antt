@@ -5,7 +5,7 @@ use mathlib.Core.Bool.{Bool}
 use mathlib.Core.List.{List, [], _∷_, _++_}
 use lib.ListN.{length}
 use Rattle.rules.specs.Choice.{_=ᵇ_, _≠ᵇ_, _<ᵇ_, no, _or_, pick, _⇒_∣_, decide}
-use Rattle.rules.specs.Answers.{NOT-IN-FOURS, SHORT-HEADER, BAD-TAG, UNKNOWN-MSGID, RESERVED}
+use Rattle.rules.specs.Answers.{DONE, NOT-IN-FOURS, SHORT-HEADER, BAD-TAG, UNKNOWN-MSGID, RESERVED}
 use Rattle.wire.specs.Bytes.{byte, number4, bytes4, zeros}
 use Rattle.wire.specs.declared.types.Header.{Header}
 use Rattle.wire.specs.declared.types.Header.the-variants.{Message, Request, Trigger}
@@ -71,46 +71,64 @@ ON = 1
 
 -- ** on Bulk-OUT
 
--- "attributes with only D0 = EOM, three 0"
+-- "reserved byte or bit not 0; TransferSize 0": "attributes with only D0 = EOM, three 0"
+abbrev pub messageRules : List ℕ → List (Bool × ℕ)
+messageRules s =
+    byte s 3 ≠ᵇ 0 ⇒ RESERVED ∣
+    TransferSize s =ᵇ 0 ⇒ RESERVED ∣
+    D0 <ᵇ attributes s ⇒ RESERVED ∣
+    no (zeros s 9 HEADER) ⇒ RESERVED ∣ []
+
 unfoldable pub readMessage : List ℕ → Read
-readMessage s =
-    decide Fault
-    (byte s 3 ≠ᵇ 0 ⇒ RESERVED ∣
-     TransferSize s =ᵇ 0 ⇒ RESERVED ∣
-     D0 <ᵇ attributes s ⇒ RESERVED ∣
-     no (zeros s 9 HEADER) ⇒ RESERVED ∣ [])
-    (Good (Message (bTag s) (TransferSize s) (attributes s)))
+readMessage s = decide Fault (messageRules s) (Good (Message (bTag s) (TransferSize s) (attributes s)))
 
 -- "attributes with only D1 = TermCharEnabled, TermChar (ignored unless enabled), two 0"
+abbrev pub requestRules : List ℕ → List (Bool × ℕ)
+requestRules s =
+    byte s 3 ≠ᵇ 0 ⇒ RESERVED ∣
+    TransferSize s =ᵇ 0 ⇒ RESERVED ∣
+    no (attributes s =ᵇ 0 or attributes s =ᵇ D1) ⇒ RESERVED ∣ []
+
+abbrev pub spareRules : List ℕ → List (Bool × ℕ)
+spareRules s = no (zeros s 10 HEADER) ⇒ RESERVED ∣ []
+
 abbrev pub requestEnd : List ℕ → ℕ → ℕ → ℕ → Read
-requestEnd s size enabled term = decide Fault (no (zeros s 10 HEADER) ⇒ RESERVED ∣ []) (Good (Request (bTag s) size enabled term))
+requestEnd s size enabled term = decide Fault (spareRules s) (Good (Request (bTag s) size enabled term))
 
 unfoldable pub readRequest : List ℕ → Read
 readRequest s =
-    decide Fault
-    (byte s 3 ≠ᵇ 0 ⇒ RESERVED ∣
-     TransferSize s =ᵇ 0 ⇒ RESERVED ∣
-     no (attributes s =ᵇ 0 or attributes s =ᵇ D1) ⇒ RESERVED ∣ [])
+    decide Fault (requestRules s)
     (pick (attributes s =ᵇ 0) (requestEnd s (TransferSize s) OFF 0) (requestEnd s (TransferSize s) ON (TermChar s)))
 
 -- "eight 0"
+abbrev pub triggerRules : List ℕ → List (Bool × ℕ)
+triggerRules s = no (zeros s 3 HEADER) ⇒ RESERVED ∣ []
+
 unfoldable pub readTrigger : List ℕ → Read
-readTrigger s = decide Fault (no (zeros s 3 HEADER) ⇒ RESERVED ∣ []) (Good (Trigger (bTag s)))
+readTrigger s = decide Fault (triggerRules s) (Good (Trigger (bTag s)))
 
 abbrev pub known : List ℕ → Bool
 known s = MsgID s =ᵇ DEV-DEP-MSG-OUT or MsgID s =ᵇ REQUEST-DEV-DEP-MSG-IN or MsgID s =ᵇ TRIGGER
 
 -- "a header then goes 6, 7, 8, 9, 10": the tenth by MsgID
+abbrev pub readingRules : List ℕ → List (Bool × ℕ)
+readingRules s =
+    length s % FOUR ≠ᵇ 0 ⇒ NOT-IN-FOURS ∣
+    length s <ᵇ HEADER ⇒ SHORT-HEADER ∣
+    bTag s =ᵇ 0 or bTagInverse s ≠ᵇ inverse (bTag s) ⇒ BAD-TAG ∣
+    no (known s) ⇒ UNKNOWN-MSGID ∣ []
+
 unfoldable pub readHeader : List ℕ → Read
 readHeader s =
-    decide Fault
-    (length s % FOUR ≠ᵇ 0 ⇒ NOT-IN-FOURS ∣
-     length s <ᵇ HEADER ⇒ SHORT-HEADER ∣
-     bTag s =ᵇ 0 or bTagInverse s ≠ᵇ inverse (bTag s) ⇒ BAD-TAG ∣
-     no (known s) ⇒ UNKNOWN-MSGID ∣ [])
+    decide Fault (readingRules s)
     (pick (MsgID s =ᵇ DEV-DEP-MSG-OUT) (readMessage s)
     (pick (MsgID s =ᵇ REQUEST-DEV-DEP-MSG-IN) (readRequest s)
     (readTrigger s)))
+
+-- the number of a fault; 0 for a header that is read
+abbrev pub headerNumber : Read → ℕ
+headerNumber (Good h) = DONE
+headerNumber (Fault number) = number
 
 -- ** on Bulk-IN
 
