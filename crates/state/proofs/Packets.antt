@@ -4,16 +4,22 @@ use Prim.Native.Nat.{ℕ, _+_, _-_, _%_, _≤_, _<_, min}
 use mathlib.Core.Path.{_≡_, refl, sym, ap, _∙_}
 use mathlib.Core.Bool.{false}
 use mathlib.Core.List.{List}
+use mathlib.Core.Logic.{_⊎_, inl, inr}
+use native.Mathlib.Omega.{arith}
 use lib.ListN.{length}
-use borrow.Author.Tests.{eq-eqb, ne-eqb, lt-ltb, le-ltb}
-use Rattle.rules.specs.Choice.{pick, first, decide}
-use Rattle.rules.proofs.Choice.{eq-neb, ne-neb, pick-true, pick-false, refuses, passes}
+use borrow.Author.Tests.{eq-eqb, ne-eqb, lt-ltb, le-ltb, ltb-false}
+use Rattle.rules.specs.Choice.{_=ᵇ_, pick, first, decide}
+use Rattle.rules.proofs.Choice.{eq-neb, ne-neb, neb-ne, not-no, pick-true, pick-false, pick-all, decide-all, refuses, passes}
 use Rattle.wire.specs.Header.{OFF, HEADER, readHeader}
 use Rattle.wire.specs.declared.types.Header.{Header}
-use Rattle.wire.specs.declared.types.Read.the-variants.{Good}
-use Rattle.state.specs.Parts.{STORE, packetSize, outOf, inOf, broken}
+use Rattle.wire.specs.declared.types.Header.the-variants.{Message, Request, Trigger}
+use Rattle.wire.specs.declared.types.Read.{Read}
+use Rattle.wire.specs.declared.types.Read.the-variants.{Good, Fault}
+use Rattle.wire.proofs.Lawful.{Reads, header-lawful}
+use Rattle.state.specs.Parts.{STORE, isOpenOut, packetSize, outOf, inOf, broken}
 use Rattle.state.specs.Remote.{withRenOn}
-use Rattle.state.specs.Out.{fitRules, more, outOfTurn, dataLength, headerRules, headerSays, outRules, outcome, absorbed}
+use Rattle.state.specs.Out.{fitRules, moreRules, more, outOfTurn, dataLength, headerRules, headerSays, outRules, outcome, absorbed, accepted, planned, outPlan, CanAbsorb, CanAccept, Can, Room}
+use Rattle.state.proofs.Soundness.{OutSound, sound-of}
 use Rattle.state.specs.declared.types.State.{State}
 use Rattle.state.specs.declared.types.BulkOut.{BulkOut}
 use Rattle.state.specs.declared.types.Remote.{Remote}
@@ -100,3 +106,59 @@ module _ (move : Remote → Remote) (ren : ℕ) (r : Remote) where
   pub stays : (ren ≡ 1 → ⊥) → r ≡ withRenOn move ren r
   unfolding withRenOn
   stays e = pick-false r _ _ _ (ne-eqb ren 1 e) refl
+
+-- ** every outcome can be carried out
+
+module _ (st : State) (s : List ℕ) where
+  -- what is known of the data of an outcome: it can be absorbed, and it stands in the packet
+  Carried : Outcome → Type 0
+  Carried (Keep number) = Unit {0}
+  Carried (Halt number) = Unit {0}
+  Carried (Data count) = CanAbsorb (outOf st) count × (count ≤ length s)
+  Carried (Accept h count) = CanAccept st h count × (count ≤ length s - HEADER) × (HEADER ≤ length s)
+
+  more-carried : OutSound (outOf st) → (outOf st .left ≡ 0 → ⊥) → Carried (more (packetSize st) (outOf st .left) s)
+  unfolding more Carried
+  more-carried (inl w) e = let r = w .1 .room in let g = w .1 .within in decide-all Carried Halt (moreRules (packetSize st) (outOf st .left) s) _ (tt, (tt, (tt, tt))) (λ _. ((omega arith, omega arith, omega arith), omega arith))
+  more-carried (inr w) e = absurd (e (w .0))
+
+  accept-carried : (h : Header) → outOf st .held + dataLength h ≤ STORE → HEADER ≤ length s → Carried (Accept h (min (dataLength h) (length s - HEADER)))
+  unfolding Carried
+  accept-carried (Message tag size end) e l = ((omega arith, omega arith, omega arith), omega arith, l)
+  accept-carried (Request tag size enabled term) e l = (tt, omega arith, l)
+  accept-carried (Trigger tag) e l = (tt, omega arith, l)
+
+  header-carried : (r : Read) → Reads s r → Carried (headerSays st s r)
+  unfolding headerSays Carried
+  header-carried (Fault number) h = tt
+  header-carried (Good h) l = decide-all Carried Halt (headerRules st s h) _ (tt, (tt, (tt, (tt, tt)))) (λ n. accept-carried h (ltb-false STORE _ (n .1 .0)) (l .0))
+
+  outcome-carried : Carried (outcome st s)
+  unfolding outcome Carried
+  outcome-carried =
+      decide-all Carried Keep (outRules st (length s)) _ (tt, (tt, (tt, (tt, (tt, tt)))))
+      (λ n. pick-all Carried (isOpenOut (outOf st)) _ _ (λ e. more-carried (sound-of st (not-no _ (n .0)) .out) (neb-ne _ _ e))
+      (λ _. pick-all Carried (length s =ᵇ 0) _ _ (λ _. tt) (λ _. header-carried (readHeader s) (header-lawful s))))
+
+  can : (x : Outcome) → Carried x → Can st x
+  unfolding Carried
+  can (Keep number) h = tt
+  can (Halt number) h = tt
+  can (Data count) h = h .0
+  can (Accept h count) k = k .0
+
+  pub outcome-can : Can st (outcome st s)
+  outcome-can = can (outcome st s) outcome-carried
+
+  room : (x : Outcome) → Carried x → Room st s (planned st x)
+  unfolding planned Carried accepted
+  room (Keep number) h = (omega arith, λ e. absurd (e refl))
+  room (Halt number) h = (omega arith, λ e. absurd (e refl))
+  room (Data count) h = (omega arith, λ _. let c = h .0 in omega arith)
+  room (Accept (Message tag size end) count) h = (omega arith, λ _. let c = h .0 in omega arith)
+  room (Accept (Request tag size enabled term) count) h = (omega arith, λ e. absurd (e refl))
+  room (Accept (Trigger tag) count) h = (omega arith, λ e. absurd (e refl))
+
+  pub plan-room : Room st s (outPlan st s)
+  unfolding outPlan
+  plan-room = room (outcome st s) outcome-carried

@@ -2,6 +2,7 @@
 -- are the pieces that it comes in. 01, "Bulk-OUT".
 -- Assumes nothing.
 use Prim.Native.Nat.{ℕ, _+_, _-_, _%_, _≤_, min}
+use mathlib.Core.Path.{_≡_}
 use mathlib.Core.Bool.{Bool, true, false}
 use mathlib.Core.List.{List, []}
 use lib.ListN.{length}
@@ -161,10 +162,17 @@ outPlan st s = planned st (outcome st s)
 abbrev pub CanAbsorb : BulkOut → ℕ → Type 0
 CanAbsorb o count = (count ≤ o .left) × (o .held + o .left ≤ STORE) × (o .got + o .left ≤ STORE)
 
+abbrev pub CanAccept : State → Header → ℕ → Type 0
+CanAccept st (Message tag size end) count = CanAbsorb (opened (outOf st) tag size end) count
+CanAccept st (Request tag size enabled term) count = Unit {0}
+CanAccept st (Trigger tag) count = Unit {0}
+
 abbrev pub Can : State → Outcome → Type 0
 Can st (Keep number) = Unit {0}
 Can st (Halt number) = Unit {0}
 Can st (Data count) = CanAbsorb (outOf st) count
-Can st (Accept (Message tag size end) count) = CanAbsorb (opened (outOf st) tag size end) count
-Can st (Accept (Request tag size enabled term) count) = Unit {0}
-Can st (Accept (Trigger tag) count) = Unit {0}
+Can st (Accept h count) = CanAccept st h count
+
+-- the data of a plan stands in the packet, and has room behind what is held
+abbrev pub Room : State → List ℕ → Plan → Type 0
+Room st s plan = (plan .from + plan .count ≤ length s) × ((plan .count ≡ 0 → ⊥) → outOf st .held + plan .count ≤ STORE)

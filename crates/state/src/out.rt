@@ -32,7 +32,7 @@ ghost use Rattle.rules.specs.Choice.{first};
 ghost use Rattle.wire.specs.Header.{readHeader, headerNumber};
 ghost use Rattle.state.specs.Parts.{unfinished, broken, withOut};
 ghost use Rattle.state.specs.Remote.{headed, withRenOn};
-ghost use Rattle.state.specs.Out.{alignment, fitRules, more, requestOutOfTurn, outOfTurn, dataLength, headerRules, headerSays, outRules, outcome, absorbed, opened, tagged, requested, CanAbsorb, Can, plain, accepted, planned, outPlan};
+ghost use Rattle.state.specs.Out.{alignment, fitRules, more, requestOutOfTurn, outOfTurn, dataLength, headerRules, headerSays, outRules, outcome, absorbed, opened, tagged, requested, CanAbsorb, CanAccept, Can, Room, plain, accepted, planned, outPlan};
 
 fn wide(x: u16) -> usize
     ensures { λ r. ⌜ (r ≡ x) × (r < 65536) ⌝ }
@@ -356,4 +356,162 @@ fn with_out(st: State, o: BulkOut) -> State
         split,
         remote,
     }
+}
+
+// A DEV_DEP_MSG_OUT header with its first data bytes.
+fn message_accepted(st: State, tag: u8, size: u32, end: u8, count: usize) -> Plan
+    requires { ⌜ CanAbsorb (opened (st .small .bulkout) tag size end) count ⌝ }
+    ensures { λ r. ⌜ r ≡ accepted st (Header.Message tag size end) count ⌝ }
+{
+    let o = st.small.bulkout;
+    let opened = BulkOut {
+        held: o.held,
+        left: size as u16,
+        got: 0,
+        end,
+        ready: o.ready,
+        halted: o.halted,
+        recent: tag,
+    };
+    let bulkout = absorbed(opened, count);
+    let r = st.remote;
+    let remote = heard(st.small.port.ren, r);
+    let port = st.small.port;
+    let bulkin = st.small.bulkin;
+    let split = st.split;
+    Plan {
+        state: State {
+            small: Small {
+                port,
+                bulkout,
+                bulkin,
+            },
+            split,
+            remote,
+        },
+        number: DONE,
+        tells: TELLS_NOTHING,
+        from: 12,
+        count,
+    }
+}
+
+fn tagged(o: BulkOut, tag: u8) -> BulkOut
+    ensures { λ r. ⌜ r ≡ tagged o tag ⌝ }
+{
+    let mut next = o;
+    next.recent = tag;
+    next
+}
+
+// A REQUEST_DEV_DEP_MSG_IN header.
+fn request_accepted(st: State, tag: u8, size: u32, enabled: u8, term: u8, count: usize) -> Plan
+    ensures { λ r. ⌜ r ≡ accepted st (Header.Request tag size enabled term) count ⌝ }
+{
+    let o = st.small.bulkout;
+    let b = st.small.bulkin;
+    let bulkout = tagged(o, tag);
+    let asked = asked(size);
+    let bulkin = BulkIn {
+        at: b.at,
+        unsent: b.unsent,
+        asked,
+        left: 0,
+        sent: 0,
+        enabled,
+        term,
+        phase: 1,
+        tag,
+        halted: b.halted,
+        recent: tag,
+    };
+    let port = st.small.port;
+    let split = st.split;
+    let remote = st.remote;
+    plain(
+        State {
+            small: Small {
+                port,
+                bulkout,
+                bulkin,
+            },
+            split,
+            remote,
+        },
+        DONE,
+    )
+}
+
+// A TRIGGER header.
+fn trigger_accepted(st: State, tag: u8, count: usize) -> Plan
+    ensures { λ r. ⌜ r ≡ accepted st (Header.Trigger tag) count ⌝ }
+{
+    let o = st.small.bulkout;
+    let state = with_out(st, tagged(o, tag));
+    Plan {
+        state,
+        number: DONE,
+        tells: TELLS_TRIGGER,
+        from: 0,
+        count: 0,
+    }
+}
+
+fn accepted(st: State, h: Header, count: usize) -> Plan
+    requires { ⌜ CanAccept st h count ⌝ }
+    ensures { λ r. ⌜ r ≡ accepted st h count ⌝ }
+{
+    match h {
+        Header::Message { tag, size, end } => message_accepted(st, tag, size, end, count),
+        Header::Request {
+            tag,
+            size,
+            enabled,
+            term,
+        } => request_accepted(st, tag, size, enabled, term, count),
+        Header::Trigger { tag } => trigger_accepted(st, tag, count),
+    }
+}
+
+fn halts(st: State, number: u8) -> Plan
+    ensures { λ r. ⌜ r ≡ planned st (Outcome.Halt number) ⌝ }
+{
+    let o = st.small.bulkout;
+    plain(with_out(st, broken(1, o)), number)
+}
+
+fn data(st: State, count: usize) -> Plan
+    requires { ⌜ CanAbsorb (st .small .bulkout) count ⌝ }
+    ensures { λ r. ⌜ r ≡ planned st (Outcome.Data count) ⌝ }
+{
+    let o = st.small.bulkout;
+    let state = with_out(st, absorbed(o, count));
+    Plan {
+        state,
+        number: DONE,
+        tells: TELLS_NOTHING,
+        from: 0,
+        count,
+    }
+}
+
+// What an outcome leaves.
+fn planned(st: State, x: Outcome) -> Plan
+    requires { ⌜ Can st x ⌝ }
+    ensures { λ r. ⌜ r ≡ planned st x ⌝ }
+{
+    match x {
+        Outcome::Keep { number } => plain(st, number),
+        Outcome::Halt { number } => halts(st, number),
+        Outcome::Data { count } => data(st, count),
+        Outcome::Accept { header, count } => accepted(st, header, count),
+    }
+}
+
+// What a packet leaves, and which bytes of it go into the message, where they have room.
+pub fn out_plan(st: State, s: &[u8]) -> Plan
+    ensures { λ r. ⌜ (r ≡ outPlan st (now (s .entry))) × Room st (now (s .entry)) r ⌝ }
+{
+    let x = outcome(st, s);
+    planned(st, x)
 }
