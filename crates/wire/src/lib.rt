@@ -1,4 +1,5 @@
 // Bytes and what they say, with no unit in sight.
+pub mod copies; // the one copy that a call makes
 pub mod header; // a Bulk-OUT header: what it says, or its first fault
 pub mod numbers; // numbers of four bytes, and runs of zero bytes
 pub mod types; // what a header and a setup packet can say

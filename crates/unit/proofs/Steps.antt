@@ -1,0 +1,39 @@
+-- A step over the small state with one store is the call on the whole unit, whoever carries it out.
+-- Assumes nothing.
+use Prim.Native.Nat.{ℕ}
+use mathlib.Core.Path.{_≡_, ap, _∙_}
+use mathlib.Core.List.{List}
+use lib.ListN.{drop}
+use lib.Seq.{paste, paste-zero}
+use Rattle.state.specs.Parts.{outOf}
+use Rattle.state.specs.Out.{outPlan}
+use Rattle.state.specs.declared.types.Plan.{Plan}
+use Rattle.unit.specs.Unit.{stateOf}
+use Rattle.unit.specs.Calls.{bulkOut}
+use Rattle.unit.specs.Promise.{doneOf}
+use Rattle.unit.specs.declared.types.Unit.{Unit}
+use Rattle.unit.specs.declared.types.Done.{Done}
+
+-- a copy of no bytes
+pub nothing-pasted : (d : List ℕ) (at : ℕ) (s : List ℕ) (n : ℕ) → n ≡ 0 → d ≡ paste d at s n
+nothing-pasted d at s n e = rw e (paste-zero d at s)
+
+-- the unit that a plan and the message store behind it make
+abbrev pub after-plan : Unit → Plan → List ℕ → Unit
+after-plan u plan m = record { message = m; reply = u .reply; small = plan .state .small; split = plan .state .split; remote = plan .state .remote }
+
+pub stepped : (u : Unit) (s : List ℕ) (plan : Plan) (m : List ℕ) → plan ≡ outPlan (stateOf u) s
+    → m ≡ paste (u .message) (outOf (stateOf u) .held) (drop (plan .from) s) (plan .count)
+    → _≡_ {A = Done} (record { unit = after-plan u plan m; number = plan .number; tells = plan .tells }) (doneOf (bulkOut u s))
+unfolding bulkOut
+stepped u s plan m e f = λ i. record {
+  unit = record {
+    message = (f ∙ ap (λ (p : Plan). paste (u .message) (outOf (stateOf u) .held) (drop (p .from) s) (p .count)) e) i;
+    reply = u .reply;
+    small = e i .state .small;
+    split = e i .state .split;
+    remote = e i .state .remote;
+  };
+  number = e i .number;
+  tells = e i .tells;
+}
