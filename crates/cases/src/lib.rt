@@ -1,0 +1,1 @@
+// Cases a to j of document 01: definitions and proofs alone.
