@@ -5,12 +5,11 @@ use mathlib.Core.Path.{_≡_, ap, _∙_}
 use mathlib.Core.List.{List}
 use lib.ListN.{drop}
 use lib.Seq.{paste, paste-zero}
-use Rattle.state.specs.Parts.{outOf}
-use Rattle.state.specs.Out.{outPlan}
-use Rattle.state.specs.declared.types.Plan.{Plan}
-use Rattle.unit.specs.Unit.{stateOf}
-use Rattle.unit.specs.Calls.{bulkOut}
-use Rattle.unit.specs.Promise.{doneOf}
+use Rattle.port.specs.Parts.{outOf}
+use Rattle.port.specs.Out.{outPlan}
+use Rattle.port.specs.declared.types.Plan.{Plan}
+use Rattle.port.specs.Calls.{bulkOut}
+use Rattle.unit.specs.Promise.{deviceOf, doneOf}
 use Rattle.unit.specs.declared.types.Unit.{Unit}
 use Rattle.unit.specs.declared.types.Done.{Done}
 
@@ -22,13 +21,13 @@ nothing-pasted d at s n e = rw e (paste-zero d at s)
 abbrev pub after-plan : Unit → Plan → List ℕ → Unit
 after-plan u plan m = record { message = m; reply = u .reply; small = plan .state .small; split = plan .state .split; remote = plan .state .remote }
 
-pub stepped : (u : Unit) (s : List ℕ) (plan : Plan) (m : List ℕ) → plan ≡ outPlan (stateOf u) s
-    → m ≡ paste (u .message) (outOf (stateOf u) .held) (drop (plan .from) s) (plan .count)
-    → _≡_ {A = Done} (record { unit = after-plan u plan m; number = plan .number; tells = plan .tells }) (doneOf (bulkOut u s))
+pub stepped : (u : Unit) (s : List ℕ) (plan : Plan) (m : List ℕ) → plan ≡ outPlan (deviceOf u .state) s
+    → m ≡ paste (u .message) (outOf (deviceOf u .state) .held) (drop (plan .from) s) (plan .count)
+    → _≡_ {A = Done} (record { unit = after-plan u plan m; number = plan .number; tells = plan .tells }) (doneOf (bulkOut (deviceOf u) s))
 unfolding bulkOut
 stepped u s plan m e f = λ i. record {
   unit = record {
-    message = (f ∙ ap (λ (p : Plan). paste (u .message) (outOf (stateOf u) .held) (drop (p .from) s) (p .count)) e) i;
+    message = (f ∙ ap (λ (p : Plan). paste (u .message) (outOf (deviceOf u .state) .held) (drop (p .from) s) (p .count)) e) i;
     reply = u .reply;
     small = e i .state .small;
     split = e i .state .split;

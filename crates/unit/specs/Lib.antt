@@ -1,6 +1,2 @@
--- The unit: its calls, a run of them, and what of it counts.
-pub mod Unit
-pub mod Calls
+-- A unit of the code beside the unit of the definitions.
 pub mod Promise
-pub mod Step
-pub mod Live

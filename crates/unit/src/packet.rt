@@ -1,16 +1,16 @@
 // A Bulk-OUT packet: the step that the by-value call and the in-place form share, and the by-value call.
 use crate::types::Done;
 use crate::types::Unit;
-use state::out::out_plan;
-use state::types::Plan;
-use state::types::State;
+use port::types::Plan;
+use port::types::State;
+use steps::out::out_plan;
 use wire::copies::copy_in;
 ghost use mathlib.Core.Path.{_≡_};
 ghost use lib.ListN.{length, drop};
 ghost use lib.Seq.{paste};
-ghost use Rattle.state.specs.Out.{outPlan};
-ghost use Rattle.unit.specs.Promise.{doneOf};
-ghost use Rattle.unit.specs.Calls.{bulkOut};
+ghost use Rattle.port.specs.Out.{outPlan};
+ghost use Rattle.port.specs.Calls.{bulkOut};
+ghost use Rattle.unit.specs.Promise.{deviceOf, doneOf};
 
 fn wide(x: u16) -> usize
     ensures { λ r. ⌜ r ≡ x ⌝ }
@@ -36,7 +36,7 @@ pub fn packet_step(message: &mut [u8; 1024], st: State, s: &[u8]) -> Plan
 impl Unit {
     // A Bulk-OUT packet.
     pub fn bulk_out(mut self, s: &[u8]) -> Done
-        ensures { λ r. ⌜ r ≡ doneOf (bulkOut self (now (s .entry))) ⌝ }
+        ensures { λ r. ⌜ r ≡ doneOf (bulkOut (deviceOf self) (now (s .entry))) ⌝ }
     {
         let small = self.small;
         let split = self.split;

@@ -1,7 +1,7 @@
 // The unit, and what its calls hand back.
-use state::types::Remote;
-use state::types::Small;
-use state::types::Split;
+use port::types::Remote;
+use port::types::Small;
+use port::types::Split;
 
 // A unit: its two stores, the small parts, and beside them the split in progress and the remote/local state.
 pub struct Unit {

@@ -7,7 +7,7 @@ use Rattle.unit.proofs.packet.packet_step.Statement.{statement}
 use Rattle.unit.proofs.packet.packet_step.Tie as tie
 use Rattle.unit.proofs.packet.packet_step.Reads as reads
 use Rattle.unit.proofs.packet.packet_step.Lts as lts
-use Rattle.state.proofs.out.out_plan.Reads as out-plan-reads
+use Rattle.steps.proofs.out.out_plan.Reads as out-plan-reads
 use Rattle.unit.proofs.packet.wide.Reads as wide-reads
 use Rattle.wire.proofs.copies.copy_in.Reads as copy-in-reads
 

@@ -1,1 +1,0 @@
-// Cases a to j of document 01: definitions and proofs alone.

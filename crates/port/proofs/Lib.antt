@@ -1,0 +1,6 @@
+-- The laws and the cases, proved of our step.
+pub mod Soundness
+pub mod Ways
+pub mod Opened
+pub mod Rows
+pub mod Refuted

@@ -1,0 +1,41 @@
+-- The statement is refuted, by computation, of each idle unit: one answer of one row is not the paper's.
+-- Assumes nothing.
+use Prim.Native.Nat.{ℕ}
+use mathlib.Core.Path.{_≡_, refl, ap}
+use mathlib.Core.List.{List, []}
+use native.Mathlib.Omega.{arith}
+use lib.ListN.{length, getD}
+use Rattle.port.specs.In.{Answer, number}
+use Rattle.port.specs.Cases.{table, played, Cases}
+use Rattle.port.specs.Idle.{constant, refusing, doingNothing, pretending, recount, madeUp}
+use Rattle.port.proofs.Opened.{computed}
+
+-- answer j of row i
+abbrev at : ℕ → ℕ → List (List Answer) → Answer
+at i j rows = getD (getD rows i []) j (number 0)
+
+-- case a: SET_CONFIGURATION is answered with no bytes, and the message has six
+pub no-constant-answer : (a : Answer) → Cases (constant a) → ⊥
+unfolding computed table played constant
+no-constant-answer a e =
+    let empty : length (a .bytes) ≡ 0 = ap (λ (rows : List (List Answer)). length (at 0 0 rows .bytes)) e in
+    let six : length (a .bytes) ≡ 6 = ap (λ (rows : List (List Answer)). length (at 0 2 rows .bytes)) e in
+    omega arith
+
+pub no-refusing : (n : ℕ) → Cases (refusing n) → ⊥
+no-refusing n e = no-constant-answer (number n) e
+
+-- case a: the packet is answered as before SET_CONFIGURATION
+pub no-doing-nothing : Cases doingNothing → ⊥
+unfolding computed table played doingNothing
+no-doing-nothing e = let two : _≡_ {A = ℕ} 2 0 = ap (λ (rows : List (List Answer)). at 0 1 rows .number) e in omega arith
+
+-- case c: after the first header there is nothing to take yet
+pub no-pretending : Cases pretending → ⊥
+unfolding computed table played pretending
+no-pretending e = let none : _≡_ {A = ℕ} 0 16 = ap (λ (rows : List (List Answer)). at 2 2 rows .number) e in omega arith
+
+-- case g: 52 data bytes came, in a packet of 64
+pub no-made-up-count : Cases (madeUp 64) → ⊥
+unfolding computed table played madeUp recount
+no-made-up-count e = let count : _≡_ {A = ℕ} 64 0x34 = ap (λ (rows : List (List Answer)). getD (at 9 3 rows .bytes) 4 0) e in omega arith

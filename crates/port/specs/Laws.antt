@@ -1,0 +1,96 @@
+-- The laws of the port, over all units and calls. A unit that steps otherwise is held to the same statements: they take the step as a parameter.
+-- Assumes nothing.
+use Prim.Native.Nat.{ℕ, _≤_}
+use mathlib.Core.Path.{_≡_}
+use mathlib.Core.Bool.{true, false}
+use mathlib.Core.List.{List, [], _∷_}
+use mathlib.Core.Logic.{_⊎_}
+use lib.ListN.{length}
+use Rattle.rules.specs.Answers.{DONE, UNSOUND, WRONG-SIZE, SUCCESS, Leaves, as-ruled, unchanged, out-halted, leaves}
+use Rattle.wire.specs.Header.{ON, OFF}
+use Rattle.port.specs.Parts.{STORE, packetSize, inOf, isConfigured, isClear, haltedOut}
+use Rattle.port.specs.In.{Answer, number}
+use Rattle.port.specs.declared.types.Setting.{Setting}
+use Rattle.port.specs.Device.{Device, Result, isSound, withState, powerOn}
+use Rattle.port.specs.Calls.{CONTROL, refused}
+use Rattle.port.specs.Step.{Call, setup-packet, in-poll, Stepping}
+use Rattle.port.specs.Live.{live}
+use Rattle.port.specs.Lists.{ownList}
+
+-- n is one of the list
+abbrev pub OneOf : ℕ → List ℕ → Type 0
+OneOf n [] = ⊥
+OneOf n (m ∷ ms) = (n ≡ m) ⊎ OneOf n ms
+
+-- the arrays of a unit have their length: known of every unit that code holds
+pub record Stored (u : Device) : Type 0 where
+  pub message : length (u .message) ≡ STORE
+  pub reply : length (u .reply) ≡ STORE
+
+-- ** soundness: "Power-on is sound, every call keeps it so, and only an unsound unit is answered 1"
+
+abbrev pub PowerOnSound : Type 0
+PowerOnSound = (setting : Setting) → isSound (powerOn setting .unit) ≡ true
+
+-- "(power-on: 0 or 3)"
+abbrev pub PowerOnNumbers : Type 0
+PowerOnNumbers = (setting : Setting) → OneOf (powerOn setting .answer .number) (DONE ∷ WRONG-SIZE ∷ [])
+
+abbrev pub KeepsSound : Stepping → Type 0
+KeepsSound does = (u : Device) (c : Call) → isSound u ≡ true → isSound (does u c .unit) ≡ true
+
+abbrev pub KeepsStored : Stepping → Type 0
+KeepsStored does = (u : Device) (c : Call) → Stored u → Stored (does u c .unit)
+
+abbrev pub UnsoundRefused : Stepping → Type 0
+UnsoundRefused does = (u : Device) (c : Call) → isSound u ≡ false → does u c ≡ refused u UNSOUND
+
+abbrev pub OnlyUnsound : Stepping → Type 0
+OnlyUnsound does = (u : Device) (c : Call) → isSound u ≡ true → does u c .answer .number ≡ UNSOUND → ⊥
+
+-- ** numbers
+
+abbrev pub OwnNumbers : Stepping → Type 0
+OwnNumbers does = (u : Device) (c : Call) → OneOf (does u c .answer .number) (DONE ∷ ownList c)
+
+-- ** what a refusal leaves: the whole unit, no byte of a lent buffer, nothing told
+
+abbrev pub LeftAs : Leaves → Device → Result → Type 0
+LeftAs as-ruled u r = ⊥
+LeftAs unchanged u r = r ≡ refused u (r .answer .number)
+LeftAs out-halted u r = r ≡ refused (withState u (haltedOut (u .state))) (r .answer .number)
+
+abbrev pub LeavesTable : Stepping → Type 0
+LeavesTable does = (u : Device) (c : Call) → (does u c .answer .number ≡ DONE → ⊥) → LeftAs (leaves (does u c .answer .number)) u (does u c)
+
+-- ** what counts
+
+abbrev pub LiveAgrees : Stepping → Type 0
+LiveAgrees does = (u v : Device) (c : Call) → Stored u → Stored v → isSound u ≡ true → isSound v ≡ true → live u ≡ live v
+    → (does u c .answer ≡ does v c .answer) × (live (does u c .unit) ≡ live (does v c .unit))
+
+-- ** a clear is reached
+
+-- INITIATE_CLEAR and CHECK_CLEAR_STATUS, into a control buffer of `room` bytes
+abbrev pub initiate : ℕ → Call
+initiate room = setup-packet (0xA1 ∷ 5 ∷ 0 ∷ 0 ∷ 0 ∷ 0 ∷ 1 ∷ 0 ∷ []) room
+
+abbrev pub check : ℕ → Call
+check room = setup-packet (0xA1 ∷ 6 ∷ 0 ∷ 0 ∷ 0 ∷ 0 ∷ 2 ∷ 0 ∷ []) room
+
+-- "SUCCESS is reached after at most one poll into a large enough buffer"
+abbrev pub Reached : Stepping → Device → ℕ → ℕ → Type 0
+Reached does u control room =
+    (does u (check control) .answer .bytes ≡ SUCCESS ∷ 0 ∷ []) ⊎ (does (does u (in-poll room) .unit) (check control) .answer .bytes ≡ SUCCESS ∷ 0 ∷ [])
+
+pub record Ready (u : Device) (control room : ℕ) : Type 0 where
+  pub sound : isSound u ≡ true
+  pub configured : isConfigured (u .state) ≡ true
+  pub running : inOf (u .state) .halted ≡ OFF
+  pub control-fits : CONTROL ≤ control
+  pub room-fits : packetSize (u .state) ≤ room
+
+-- "With Bulk-IN not halted": after INITIATE_CLEAR, and where a clear has already begun
+abbrev pub ClearReached : Stepping → Type 0
+ClearReached does = (u : Device) (control room : ℕ) → Ready u control room
+    → Reached does (does u (initiate control) .unit) control room × (isClear (u .state .split) ≡ true → Reached does u control room)

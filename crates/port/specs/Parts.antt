@@ -1,0 +1,205 @@
+-- The parts of a unit: their numbers, the tests on them, and one part set while the others stay. 01, "The unit".
+-- Assumes nothing.
+use Prim.Native.Nat.{ℕ}
+use mathlib.Core.Bool.{Bool, true, false}
+use mathlib.Core.List.{List}
+use Rattle.rules.specs.Choice.{_=ᵇ_, _≠ᵇ_, _or_, _and_, pick}
+use Rattle.wire.specs.Header.{OFF, ON}
+use Rattle.port.specs.declared.types.Setting.{Setting}
+use Rattle.port.specs.declared.types.Port.{Port}
+use Rattle.port.specs.declared.types.BulkOut.{BulkOut}
+use Rattle.port.specs.declared.types.BulkIn.{BulkIn}
+use Rattle.port.specs.declared.types.Small.{Small}
+use Rattle.port.specs.declared.types.Split.{Split}
+use Rattle.port.specs.declared.types.Split.the-variants.{None, AbortOut, AbortIn, Clear}
+use Rattle.port.specs.declared.types.Remote.{Remote}
+use Rattle.port.specs.declared.types.Remote.the-variants.{Locs}
+use Rattle.port.specs.declared.types.State.{State}
+
+-- "a message store of 1,024 bytes .. and a reply store of the same size"
+abbrev pub STORE : ℕ
+STORE = 1024
+
+-- "a packet size P, 64 or 512"
+abbrev pub FULL-SPEED : ℕ
+FULL-SPEED = 64
+
+abbrev pub HIGH-SPEED : ℕ
+HIGH-SPEED = 512
+
+abbrev pub isSize : ℕ → Bool
+isSize p = p =ᵇ FULL-SPEED or p =ᵇ HIGH-SPEED
+
+-- how far a Bulk-IN transfer is: closed; asked for, with no packet of it gone; on its way; nothing but its empty packet to go
+abbrev pub CLOSED : ℕ
+CLOSED = 0
+
+abbrev pub ASKED : ℕ
+ASKED = 1
+
+abbrev pub SENDING : ℕ
+SENDING = 2
+
+abbrev pub OWED : ℕ
+OWED = 3
+
+-- ** tests
+
+abbrev pub on : ℕ → Bool
+on flag = flag =ᵇ ON
+
+-- "An OUT transfer is open from its header until complete"
+abbrev pub isOpenOut : BulkOut → Bool
+isOpenOut o = o .left ≠ᵇ 0
+
+-- a message is unfinished: a part of it has come
+abbrev pub unfinished : BulkOut → Bool
+unfinished o = o .ready =ᵇ OFF and o .held ≠ᵇ 0
+
+-- "an IN transfer from its REQUEST until its short packet"
+abbrev pub isOpenIn : BulkIn → Bool
+isOpenIn b = b .phase ≠ᵇ CLOSED
+
+abbrev pub isOwed : BulkIn → Bool
+isOwed b = b .phase =ᵇ OWED
+
+-- "The reply is gone when a transfer with D0 closes": until then it is stored, with no byte unsent perhaps
+abbrev pub hasReply : BulkIn → Bool
+hasReply b = b .unsent ≠ᵇ 0 or b .phase =ᵇ SENDING
+
+abbrev pub isNone : Split → Bool
+isNone None = true
+isNone (AbortOut n) = false
+isNone (AbortIn n) = false
+isNone Clear = false
+
+abbrev pub isAbortOut : Split → Bool
+isAbortOut None = false
+isAbortOut (AbortOut n) = true
+isAbortOut (AbortIn n) = false
+isAbortOut Clear = false
+
+abbrev pub isClear : Split → Bool
+isClear None = false
+isClear (AbortOut n) = false
+isClear (AbortIn n) = false
+isClear Clear = true
+
+-- ** fields, by short ways
+
+abbrev pub packetSize : State → ℕ
+packetSize st = st .small .port .setting .packet
+
+abbrev pub outOf : State → BulkOut
+outOf st = st .small .bulkout
+
+abbrev pub inOf : State → BulkIn
+inOf st = st .small .bulkin
+
+abbrev pub isConfigured : State → Bool
+isConfigured st = on (st .small .port .configured)
+
+-- ** one part set, the others kept
+
+abbrev pub withPort : State → Port → State
+withPort st p = record { small = record { port = p; bulkout = outOf st; bulkin = inOf st }; split = st .split; remote = st .remote }
+
+abbrev pub withOut : State → BulkOut → State
+withOut st o = record { small = record { port = st .small .port; bulkout = o; bulkin = inOf st }; split = st .split; remote = st .remote }
+
+abbrev pub withIn : State → BulkIn → State
+withIn st b = record { small = record { port = st .small .port; bulkout = outOf st; bulkin = b }; split = st .split; remote = st .remote }
+
+abbrev pub withSplit : State → Split → State
+withSplit st s = record { small = st .small; split = s; remote = st .remote }
+
+abbrev pub withRemote : State → Remote → State
+withRemote st r = record { small = st .small; split = st .split; remote = r }
+
+abbrev pub withRen : Port → ℕ → Port
+withRen p r = record { setting = p .setting; configured = p .configured; ren = r; status = p .status }
+
+abbrev pub withStatus : Port → ℕ → Port
+withStatus p s = record { setting = p .setting; configured = p .configured; ren = p .ren; status = s }
+
+abbrev pub withInHalted : BulkIn → ℕ → BulkIn
+withInHalted b h = record {
+  at = b .at;
+  unsent = b .unsent;
+  asked = b .asked;
+  left = b .left;
+  sent = b .sent;
+  enabled = b .enabled;
+  term = b .term;
+  phase = b .phase;
+  tag = b .tag;
+  halted = h;
+  recent = b .recent;
+}
+
+-- ** power-on
+
+-- nothing held, no transfer open
+abbrev pub emptyOut : ℕ → ℕ → BulkOut
+emptyOut halted recent = record { held = 0; left = 0; got = 0; end = OFF; ready = OFF; halted = halted; recent = recent }
+
+-- no reply stored, and no transfer but, in the phase `phase`, the one of `tag`
+abbrev pub emptyIn : ℕ → ℕ → ℕ → ℕ → BulkIn
+emptyIn phase tag halted recent = record {
+  at = 0;
+  unsent = 0;
+  asked = 0;
+  left = 0;
+  sent = 0;
+  enabled = OFF;
+  term = 0;
+  phase = phase;
+  tag = tag;
+  halted = halted;
+  recent = recent;
+}
+
+-- "unconfigured, with nothing stored, open, halted or in progress, REN off, LOCS, status byte 0"; "1 configured, 0 not"
+unfoldable pub fresh : Setting → ℕ → State
+fresh setting configured = record {
+  small = record {
+    port = record { setting = setting; configured = configured; ren = OFF; status = 0 };
+    bulkout = emptyOut OFF 0;
+    bulkin = emptyIn CLOSED 0 OFF 0;
+  };
+  split = None;
+  remote = Locs;
+}
+
+-- ** breaks
+
+-- "A halt of Bulk-OUT .. drops the open OUT transfer and the unfinished message, but not a ready one"; `halted`: the halt after it
+unfoldable pub broken : ℕ → BulkOut → BulkOut
+broken halted o = record {
+  held = pick (on (o .ready)) (o .held) 0;
+  left = 0;
+  got = 0;
+  end = OFF;
+  ready = o .ready;
+  halted = halted;
+  recent = o .recent;
+}
+
+abbrev pub haltedOut : State → State
+haltedOut st = withOut st (broken ON (outOf st))
+
+-- the IN transfer closes; what is unsent of the reply stays
+unfoldable pub shut : BulkIn → BulkIn
+shut b = record {
+  at = b .at;
+  unsent = b .unsent;
+  asked = 0;
+  left = 0;
+  sent = 0;
+  enabled = OFF;
+  term = 0;
+  phase = CLOSED;
+  tag = 0;
+  halted = b .halted;
+  recent = b .recent;
+}

@@ -1,0 +1,25 @@
+use mathlib.Core.Path.{_≡_, refl}
+use Rattle.port.specs.Out.{planned}
+use borrow.Author.Needs.{needs}
+use Rattle.steps.proofs.out.data.Statement.{statement}
+use Rattle.steps.proofs.out.data.Tie as tie
+use Rattle.steps.proofs.out.data.Reads as reads
+use Rattle.steps.proofs.out.data.Lts as lts
+use Rattle.steps.proofs.out.absorbed.Reads as absorbed-reads
+use Rattle.steps.proofs.out.with_out.Reads as with-out-reads
+
+-- src/out.rt:488:30
+absorbed-requires : tie.Need-absorbed-requires
+absorbed-requires c κs = search needs
+
+-- src/out.rt:488:9
+with-out-requires : tie.Need-with-out-requires
+with-out-requires c κs = search needs
+
+-- src/out.rt:483:1
+returns : tie.Need-returns
+unfolding planned
+returns c = rw (c .with-out .ensures, c .before .absorbed .ensures)
+
+pub data-spec : {M : Type 1} → statement M
+data-spec = tie.close (tie.spec absorbed-requires with-out-requires returns)

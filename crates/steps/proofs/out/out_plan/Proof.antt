@@ -1,0 +1,26 @@
+use mathlib.Core.Path.{_≡_, refl}
+use Rattle.port.specs.Out.{outPlan}
+use Rattle.steps.proofs.Packets.{outcome-can, plan-room}
+use borrow.Author.Needs.{needs}
+use Rattle.steps.proofs.out.out_plan.Statement.{statement}
+use Rattle.steps.proofs.out.out_plan.Tie as tie
+use Rattle.steps.proofs.out.out_plan.Reads as reads
+use Rattle.steps.proofs.out.out_plan.Lts as lts
+use Rattle.steps.proofs.out.outcome.Reads as outcome-reads
+use Rattle.steps.proofs.out.planned.Reads as planned-reads
+
+-- src/out.rt:515:9
+outcome-requires : tie.Need-outcome-requires
+outcome-requires c κs = search needs
+
+-- src/out.rt:516:5
+planned-requires : tie.Need-planned-requires
+planned-requires c κs = rw (c .outcome .ensures) (outcome-can _ _)
+
+-- src/out.rt:512:1
+returns : tie.Need-returns
+unfolding outPlan
+returns c = rw (c .planned .ensures, c .before .outcome .ensures) (refl, plan-room _ _)
+
+pub out-plan-spec : {M : Type 1} → statement M
+out-plan-spec = tie.close (tie.spec outcome-requires planned-requires returns)

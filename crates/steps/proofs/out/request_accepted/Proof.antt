@@ -1,0 +1,30 @@
+use mathlib.Core.Path.{_≡_, refl}
+use Rattle.port.specs.Out.{accepted}
+use borrow.Author.Needs.{needs}
+use Rattle.steps.proofs.out.request_accepted.Statement.{statement}
+use Rattle.steps.proofs.out.request_accepted.Tie as tie
+use Rattle.steps.proofs.out.request_accepted.Reads as reads
+use Rattle.steps.proofs.out.request_accepted.Lts as lts
+use Rattle.steps.proofs.out.asked.Reads as asked-reads
+use Rattle.steps.proofs.out.plain.Reads as plain-reads
+use Rattle.steps.proofs.out.tagged.Reads as tagged-reads
+
+-- src/out.rt:413:9
+tagged-requires : tie.Need-tagged-requires
+tagged-requires c κs = search needs
+
+-- src/out.rt:414:9
+asked-requires : tie.Need-asked-requires
+asked-requires c κs = search needs
+
+-- src/out.rt:431:5
+plain-requires : tie.Need-plain-requires
+plain-requires c κs = search needs
+
+-- src/out.rt:408:1
+returns : tie.Need-returns
+unfolding accepted
+returns c = rw (c .plain .ensures, c .before .before .asked .ensures, c .before .before .before .tagged .ensures)
+
+pub request-accepted-spec : {M : Type 1} → statement M
+request-accepted-spec = tie.close (tie.spec tagged-requires asked-requires plain-requires returns)

@@ -1,0 +1,60 @@
+use Rattle.port.specs.Sound.{sound}
+use Rattle.rules.proofs.Choice.{picks}
+use borrow.Author.Needs.{needs}
+use Rattle.steps.proofs.sound.sound.Statement.{statement}
+use Rattle.steps.proofs.sound.sound.Tie as tie
+use Rattle.steps.proofs.sound.sound.Reads as reads
+use Rattle.steps.proofs.sound.sound.Lts as lts
+use Rattle.steps.proofs.sound.in_sound.Reads as in-sound-reads
+use Rattle.steps.proofs.sound.out_sound.Reads as out-sound-reads
+use Rattle.steps.proofs.sound.port_sound.Reads as port-sound-reads
+use Rattle.steps.proofs.sound.split_sound.Reads as split-sound-reads
+
+-- src/sound.rt:280:8
+port-sound-requires : tie.Need-port-sound-requires
+port-sound-requires c κs = search needs
+
+-- src/sound.rt:281:12
+out-sound-requires : tie.Need-out-sound-requires
+out-sound-requires c κs = search needs
+
+-- src/sound.rt:282:16
+in-sound-requires : tie.Need-in-sound-requires
+in-sound-requires c κs = search needs
+
+-- src/sound.rt:283:17
+split-sound-requires : tie.Need-split-sound-requires
+split-sound-requires c κs = search needs
+
+-- src/sound.rt:283:17
+returns : tie.Need-returns
+unfolding sound
+returns c = search picks depth 20
+
+-- src/sound.rt:285:13
+returns-2 : tie.Need-returns-2
+unfolding sound
+returns-2 c = search picks depth 20
+
+-- src/sound.rt:287:9
+returns-3 : tie.Need-returns-3
+unfolding sound
+returns-3 c = search picks depth 20
+
+-- src/sound.rt:273:1
+returns-4 : tie.Need-returns-4
+unfolding sound
+returns-4 c = search picks depth 20
+
+pub sound-spec : {M : Type 1} → statement M
+sound-spec =
+    tie.close
+    (tie.spec
+    port-sound-requires
+    out-sound-requires
+    in-sound-requires
+    split-sound-requires
+    returns
+    returns-2
+    returns-3
+    returns-4)

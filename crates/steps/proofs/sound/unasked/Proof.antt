@@ -1,0 +1,24 @@
+use Rattle.port.specs.Sound.{unasked}
+use Rattle.rules.proofs.Choice.{picks}
+use Rattle.steps.proofs.sound.unasked.Statement.{statement}
+use Rattle.steps.proofs.sound.unasked.Tie as tie
+use Rattle.steps.proofs.sound.unasked.Reads as reads
+use Rattle.steps.proofs.sound.unasked.Lts as lts
+
+-- src/sound.rt:121:9
+returns : tie.Need-returns
+unfolding unasked
+returns c = search picks depth 20
+
+-- src/sound.rt:124:9
+returns-2 : tie.Need-returns-2
+unfolding unasked
+returns-2 c = search picks depth 20
+
+-- src/sound.rt:117:1
+returns-3 : tie.Need-returns-3
+unfolding unasked
+returns-3 c = search picks depth 20
+
+pub unasked-spec : {M : Type 1} → statement M
+unasked-spec = tie.close (tie.spec returns returns-2 returns-3)

@@ -1,0 +1,3 @@
+// The decisions of the port in code, over the small state by value: each gives what its definition gives.
+pub mod out; // a Bulk-OUT packet
+pub mod sound; // whether a unit is sound
