@@ -1,6 +1,9 @@
 -- The laws and the cases, proved of our step.
 pub mod Soundness
 pub mod Ways
+pub mod KeepsOut
+pub mod KeepsIn
+pub mod Calls
 pub mod Opened
 pub mod Rows
 pub mod Refuted

@@ -9,7 +9,7 @@ use native.Mathlib.Omega.{arith}
 use lib.Dec.{leb, eqb}
 use borrow.Author.Tests.{le-leb, leb-true, eq-eqb, ne-eqb, eqb-true, eqb-false}
 use Rattle.rules.specs.Choice.{_=ᵇ_, _≠ᵇ_, _≤ᵇ_, no, _or_, _and_, pick, _⇒_∣_, first, _&_, all, implies}
-use Rattle.rules.proofs.Choice.{all-of, of-all, at-true, at-false, pick-all, neb-ne, neb-eq, ne-neb, eq-neb, or-left, or-right, or-none, or-false, no-true, no-false, is-no, not-no, and-both, and-left, and-right, both-left, both-right, none-left, none-right}
+use Rattle.rules.proofs.Choice.{all-of, of-all, at-true, at-false, pick-all, neb-ne, neb-eq, ne-neb, eq-neb, or-left, or-right, no-true, is-no, and-both, both-left, both-right, either}
 use Rattle.wire.specs.Header.{OFF, ON}
 use Rattle.port.specs.Parts.{STORE, isSize, CLOSED, ASKED, SENDING, OWED, on, isOpenOut, isOwed, outOf, inOf}
 use Rattle.port.specs.Sound.{isFlag, portSound, openSound, heldSound, restingSound, outSound, unasked, unsending, idle, askedSound, sendingSound, phaseSound, inSound, clearSound, notOwed, abortOutSound, splitSound, sound}
@@ -20,7 +20,7 @@ use Rattle.port.specs.declared.types.Split.{Split}
 use Rattle.port.specs.declared.types.Split.the-variants.{None, AbortOut, AbortIn, Clear}
 use Rattle.port.specs.declared.types.State.{State}
 
--- ** tests that imply, and tests of which one holds
+-- ** tests that imply
 
 imply-of : (a b : Bool) → implies a b ≡ true → a ≡ true → b ≡ true
 unfolding no _or_
@@ -31,11 +31,6 @@ imply-to : (a b : Bool) → (a ≡ true → b ≡ true) → implies a b ≡ true
 unfolding no _or_
 imply-to true b h = h refl
 imply-to false b h = refl
-
-either-of : (a b : Bool) → (a or b) ≡ true → (a ≡ true) ⊎ (b ≡ true)
-unfolding _or_
-either-of true b e = inl refl
-either-of false b e = inr e
 
 -- the ways of a choice, with the test
 way-of : (P Q : Type 0) (t a b : Bool) → pick t a b ≡ true → (a ≡ true → P) → (b ≡ true → Q) → ((t ≡ true) × P) ⊎ ((t ≡ false) × Q)
@@ -320,7 +315,7 @@ clear-of o b e =
       out-tag = eqb-true _ _ (h .1 .1 .0);
       unsent = eqb-true _ _ (h .1 .1 .1 .0);
       in-tag = eqb-true _ _ (h .1 .1 .1 .1 .0);
-      phase = ⊎-elim (λ t. inl (eqb-true _ _ t)) (λ t. inr (eqb-true _ _ t)) (either-of (b .phase =ᵇ CLOSED) (isOwed b) (h .1 .1 .1 .1 .1 .0));
+      phase = ⊎-elim (λ t. inl (eqb-true _ _ t)) (λ t. inr (eqb-true _ _ t)) (either (b .phase =ᵇ CLOSED) (isOwed b) (h .1 .1 .1 .1 .1 .0));
     }
 
 clear-to : (o : BulkOut) (b : BulkIn) → ClearSound o b → clearSound o b ≡ true

@@ -7,8 +7,8 @@ use mathlib.Core.List.{List, [], _∷_}
 use lib.ListN.{length}
 use borrow.Author.Tests.{ltb-false}
 use Rattle.rules.specs.Choice.{_=ᵇ_, pick, decide}
-use Rattle.rules.specs.Answers.{DONE, UNSOUND, UNCONFIGURED, WRONG-SIZE, HALTED, WAIT, NOT-IN-FOURS, SHORT-HEADER, BAD-TAG, UNKNOWN-MSGID, RESERVED, WRONG-LENGTH, TOO-LONG, OUT-OF-TURN, MISALIGNED}
-use Rattle.rules.proofs.Choice.{NoneOf, Each, pick-all, decide-all, neb-ne, neb-eq, not-no}
+use Rattle.rules.specs.Answers.{DONE, NOT-IN-FOURS, SHORT-HEADER, BAD-TAG, UNKNOWN-MSGID, RESERVED, WRONG-LENGTH, TOO-LONG, OUT-OF-TURN, MISALIGNED}
+use Rattle.rules.proofs.Choice.{NoneOf, Each, EachLine, pick-all, decide-all, decide-lines, neb-ne, neb-eq, not-no}
 use Rattle.wire.specs.Header.{HEADER, readHeader}
 use Rattle.wire.specs.declared.types.Header.{Header}
 use Rattle.wire.specs.declared.types.Read.{Read}
@@ -47,9 +47,9 @@ passed st n h = record { is-sound = not-no _ (h .0); configured = not-no _ (h .1
 
 -- Q of every number that keeps, of every fault, of data and of a header
 pub record Ways (st : State) (s : List ℕ) (Q : Outcome → Type 0) : Type 0 where
-  pub keeps : Each (λ (n : ℕ). Q (Keep n)) (UNSOUND ∷ UNCONFIGURED ∷ WRONG-SIZE ∷ HALTED ∷ WAIT ∷ [])
+  pub keeps : EachLine (λ (n : ℕ). Q (Keep n)) (outRules st (length s))
   pub empty : Passed st (length s) → Q (Keep DONE)
-  pub halts : Each (λ (m : ℕ). Q (Halt m)) (NOT-IN-FOURS ∷ SHORT-HEADER ∷ BAD-TAG ∷ UNKNOWN-MSGID ∷ RESERVED ∷ OUT-OF-TURN ∷ TOO-LONG ∷ WRONG-LENGTH ∷ MISALIGNED ∷ [])
+  pub halts : Passed st (length s) → Each (λ (m : ℕ). Q (Halt m)) (NOT-IN-FOURS ∷ SHORT-HEADER ∷ BAD-TAG ∷ UNKNOWN-MSGID ∷ RESERVED ∷ OUT-OF-TURN ∷ TOO-LONG ∷ WRONG-LENGTH ∷ MISALIGNED ∷ [])
   pub continues : Continues st s → Q (Data (min (outOf st .left) (length s)))
   pub heads : (h : Header) → Heads st s h → Q (Accept h (min (dataLength h) (length s - HEADER)))
 
@@ -57,27 +57,27 @@ module _ (st : State) (s : List ℕ) (Q : Outcome → Type 0) (w : Ways st s Q) 
   more-ways : Passed st (length s) → (outOf st .left ≡ 0 → ⊥) → Q (more (packetSize st) (outOf st .left) s)
   unfolding more
   more-ways p e =
-      let h = w .halts in
+      let h = w .halts p in
       decide-all Q Halt (moreRules (packetSize st) (outOf st .left) s) _ (h .0, (h .1 .1 .1 .1 .1 .1 .1 .0, (h .1 .1 .1 .1 .1 .1 .1 .1 .0, tt)))
       (λ n. w .continues (record { passed = p; is-open = e; none = n }))
 
   good-ways : Passed st (length s) → outOf st .left ≡ 0 → (h : Header) → Reads s (Good h) → Q (headerSays st s (Good h))
   unfolding headerSays
   good-ways p e h r =
-      let f = w .halts in
+      let f = w .halts p in
       decide-all Q Halt (headerRules st s h) _ (f .1 .1 .1 .1 .1 .0, (f .1 .1 .1 .1 .1 .1 .0, (f .1 .1 .1 .1 .1 .1 .1 .0, (f .1 .1 .1 .1 .1 .1 .1 .1 .0, tt))))
       (λ n. w .heads h (record { passed = p; between = e; reads = r; none = n }))
 
   says-ways : Passed st (length s) → outOf st .left ≡ 0 → Q (headerSays st s (readHeader s))
   unfolding headerSays
   says-ways p e =
-      let f = w .halts in
+      let f = w .halts p in
       header-ways s (λ (r : Read). Q (headerSays st s r)) (f .1 .1 .1 .1 .0) (good-ways p e) (f .0) (f .1 .0) (f .1 .1 .0) (f .1 .1 .1 .0)
 
   pub outcome-ways : Q (outcome st s)
   unfolding outcome
   outcome-ways =
-      decide-all Q Keep (outRules st (length s)) _ (w .keeps)
+      decide-lines Q Keep (outRules st (length s)) _ (w .keeps)
       (λ n.
       let p = passed st (length s) n in
       pick-all Q (isOpenOut (outOf st)) _ _ (λ e. more-ways p (neb-ne _ _ e))

@@ -6,6 +6,7 @@ use Prim.Native.Nat.{ℕ, zero, suc, _≤_, _<_}
 use mathlib.Core.Path.{_≡_, refl, sym, ap, _∙_}
 use mathlib.Core.Bool.{Bool, true, false, true≢false, false≢true}
 use mathlib.Core.List.{List, [], _∷_}
+use mathlib.Core.Logic.{_⊎_, inl, inr}
 use native.Mathlib.Omega.{arith}
 use lib.Dec.{T, ltb, leb, eqb}
 use borrow.Author.Tests.{lt-ltb, le-ltb, le-leb, lt-leb, eq-eqb, ne-eqb, eqb-true, eqb-false}
@@ -109,6 +110,11 @@ unfolding _or_
 none-right true b e = absurd (true≢false e)
 none-right false b e = e
 
+pub either : (a b : Bool) → (a or b) ≡ true → (a ≡ true) ⊎ (b ≡ true)
+unfolding _or_
+either true b e = inl refl
+either false b e = inr e
+
 pub both-left : (a b : Bool) → (a and b) ≡ true → a ≡ true
 unfolding _and_
 both-left true b e = refl
@@ -181,9 +187,21 @@ abbrev pub Each : {A : Type 0} → (A → Type 0) → List A → Type 0
 Each P [] = Unit {0}
 Each P (a ∷ rest) = P a × Each P rest
 
+-- P of each line, where its test holds
+abbrev pub EachLine : {A : Type 0} → (A → Type 0) → List (Bool × A) → Type 0
+EachLine P [] = Unit {0}
+EachLine P (r ∷ rs) = (r .0 ≡ true → P (r .1)) × EachLine P rs
+
+pub decide-lines : {A B : Type 0} (P : B → Type 0) (f : A → B) (rs : List (Bool × A)) (z : B) → EachLine (λ (a : A). P (f a)) rs → (NoneOf rs → P z) → P (decide f rs z)
+decide-lines P f [] z e h = h tt
+decide-lines P f (r ∷ rs) z e h = pick-all P (r .0) _ _ (e .0) (λ n. decide-lines P f rs z (e .1) (λ ns. h (n, ns)))
+
+lines : {A : Type 0} (P : A → Type 0) (rs : List (Bool × A)) → Each P (named rs) → EachLine P rs
+lines P [] h = tt
+lines P (r ∷ rs) h = (λ _. h .0, lines P rs (h .1))
+
 pub decide-all : {A B : Type 0} (P : B → Type 0) (f : A → B) (rs : List (Bool × A)) (z : B) → Each (λ (a : A). P (f a)) (named rs) → (NoneOf rs → P z) → P (decide f rs z)
-decide-all P f [] z e h = h tt
-decide-all P f (r ∷ rs) z e h = pick-all P (r .0) _ _ (λ _. e .0) (λ n. decide-all P f rs z (e .1) (λ ns. h (n, ns)))
+decide-all P f rs z e h = decide-lines P f rs z (lines (λ a. P (f a)) rs e) h
 
 pub decide-both : {A B C : Type 0} (R : B → C → Type 0) (f : A → B) (g : A → C) (rs : List (Bool × A)) (z : B) (w : C)
     → ((a : A) → R (f a) (g a)) → (NoneOf rs → R z w) → R (decide f rs z) (decide g rs w)
