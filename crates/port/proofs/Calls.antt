@@ -33,7 +33,7 @@ use Rattle.port.specs.Rows.{abortRules, inTag, initiateAbortOut, initiat
 use Rattle.port.specs.Device.{Device, Result, isSound, withState, heldOf, unsentOf, zeroed, made, powerOn}
 use Rattle.port.specs.Calls.{refused, done, said, carriedOut, bulkOut, bulkIn, setupRules, answered, setup, takeRules, released, take-message, offerRules, offered, offer, thermostatRules, setStatus, panel, busRules, busReset, suspend}
 use Rattle.port.specs.Step.{Call, setup-packet, out-packet, in-poll, take-into, offer-reply, set-status, front-panel, bus-reset, bus-suspend, step}
-use Rattle.port.specs.Lists.{bulk, faults, ownList}
+use Rattle.port.specs.Lists.{bulk, faults, own, ownList}
 use Rattle.port.specs.Laws.{OneOf, Stored, PowerOnSound, PowerOnNumbers, KeepsSound, KeepsStored, UnsoundRefused, OnlyUnsound, OwnNumbers, LeftAs, LeavesTable}
 use Rattle.port.specs.declared.types.Setting.{Setting}
 use Rattle.port.specs.declared.types.Split.{Split}
@@ -167,7 +167,7 @@ send-number st unsent = refl
 
 module _ (u : Device) where
   setup-way : (s : List ℕ) (room : ℕ) → Way u (setup-packet s room) (setup u s room)
-  unfolding setup ownList leaves answered made
+  unfolding setup own leaves answered made
   setup-way s room =
       let c = setup-packet s room in
       decide-lines (Way u c) (refused u) (setupRules u s room) _
@@ -208,11 +208,11 @@ module _ (u : Device) where
     keep-way n w = subst (Way u packet) (sym (kept u s n)) w
 
     stays-way : (n : ℕ) → T (elem n (bulk faults)) → leaves n ≡ unchanged → (n ≡ UNSOUND → ⊥) → Q (Keep n)
-    unfolding ownList
+    unfolding own
     stays-way n o l e = keep-way n (keeps u packet n (one n (bulk faults) o) l e)
 
     halt-way : Sound (u .state) → (n : ℕ) → T (elem n (bulk faults)) → leaves n ≡ out-halted → (n ≡ UNSOUND → ⊥) → Q (Halt n)
-    unfolding Q ownList
+    unfolding Q own
     halt-way h n o l e = subst (Way u packet) (sym (halted s n)) (halts n (one n (bulk faults) o) l e h)
 
     data-way : Continues (u .state) s → Q (Data (min (outOf (u .state) .left) (length s)))
@@ -231,7 +231,7 @@ module _ (u : Device) where
     head-way (Trigger tag) c = does _ refl (accept-sound (u .state) s (Trigger tag) c) (put-stored s 0 0 _ (λ e. absurd (e refl)) (omega arith))
 
     out-way : Way u packet (bulkOut u s)
-    unfolding bulkOut outPlan Q ownList leaves
+    unfolding bulkOut outPlan Q own leaves
     out-way = outcome-ways (u .state) s Q (record {
       keeps = (λ e. keep-way UNSOUND (refuses UNSOUND (one UNSOUND (bulk faults) tt) refl (λ _. is-no _ e)),
         (λ _. stays-way UNCONFIGURED tt refl (λ e. omega arith),
@@ -256,7 +256,7 @@ module _ (u : Device) where
   -- ** Bulk-IN
 
   in-way : (room : ℕ) → Way u (in-poll room) (bulkIn u room)
-  unfolding bulkIn poll ownList leaves
+  unfolding bulkIn poll own leaves
   in-way room =
       decide-lines P (refuse (u .state)) (inRules (u .state) room) _
       (first-line u c (one UNSOUND (bulk []) tt),
@@ -283,7 +283,7 @@ module _ (u : Device) where
   -- ** the thermostat's calls and the bus's
 
   take-way : (room : ℕ) → Way u (take-into room) (take-message u room)
-  unfolding take-message ownList leaves
+  unfolding take-message own leaves
   take-way room =
       let c = take-into room in
       decide-lines (Way u c) (refused u) (takeRules u room) _
@@ -294,7 +294,7 @@ module _ (u : Device) where
       (λ n. does _ refl (released-sound (u .state) (sound-of _ (not-no _ (n .0))) (eqb-true _ _ (not-no _ (n .1 .1 .0)))) (stays u _))
 
   offer-way : (bytes : List ℕ) → Way u (offer-reply bytes) (offer u bytes)
-  unfolding offer ownList leaves
+  unfolding offer own leaves
   offer-way bytes =
       let c = offer-reply bytes in
       decide-lines (Way u c) (refused u) (offerRules u bytes) _
@@ -317,7 +317,7 @@ module _ (u : Device) where
     bus-way r w = decide-lines (Way u c) (refused u) (busRules u) _ (first-line u c list, tt) (λ n. w (sound-of _ (not-no _ (n .0))))
 
   pub way : (c : Call) → Way u c (step u c)
-  unfolding step ownList setStatus panel busReset suspend answered made
+  unfolding step own setStatus panel busReset suspend answered made
   way (setup-packet s room) = setup-way s room
   way (out-packet s) = out-way s
   way (in-poll room) = in-way room

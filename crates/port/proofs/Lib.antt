@@ -7,3 +7,5 @@ pub mod Calls
 pub mod Opened
 pub mod Rows
 pub mod Refuted
+pub mod Clearing
+pub mod Answered

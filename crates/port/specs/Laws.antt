@@ -6,16 +6,16 @@ use mathlib.Core.Bool.{true, false}
 use mathlib.Core.List.{List, [], _∷_}
 use mathlib.Core.Logic.{_⊎_}
 use lib.ListN.{length}
-use Rattle.rules.specs.Answers.{DONE, UNSOUND, WRONG-SIZE, SUCCESS, Leaves, as-ruled, unchanged, out-halted, leaves}
+use Rattle.rules.specs.Answers.{DONE, UNSOUND, WRONG-SIZE, SUCCESS, TELLS-NOTHING, Leaves, as-ruled, unchanged, out-halted, leaves}
 use Rattle.wire.specs.Header.{ON, OFF}
 use Rattle.port.specs.Parts.{STORE, packetSize, inOf, isConfigured, isClear, haltedOut}
 use Rattle.port.specs.In.{Answer, number}
 use Rattle.port.specs.declared.types.Setting.{Setting}
 use Rattle.port.specs.Device.{Device, Result, isSound, withState, powerOn}
 use Rattle.port.specs.Calls.{CONTROL, refused}
-use Rattle.port.specs.Step.{Call, setup-packet, in-poll, Stepping}
+use Rattle.port.specs.Step.{Call, setup-packet, in-poll, Stepping, after}
 use Rattle.port.specs.Live.{live}
-use Rattle.port.specs.Lists.{ownList}
+use Rattle.port.specs.Lists.{Kind, kindOf, own, ownList}
 
 -- n is one of the list
 abbrev pub OneOf : ℕ → List ℕ → Type 0
@@ -32,7 +32,7 @@ pub record Stored (u : Device) : Type 0 where
 abbrev pub PowerOnSound : Type 0
 PowerOnSound = (setting : Setting) → isSound (powerOn setting .unit) ≡ true
 
--- "(power-on: 0 or 3)"
+-- power-on answers 0 or 3
 abbrev pub PowerOnNumbers : Type 0
 PowerOnNumbers = (setting : Setting) → OneOf (powerOn setting .answer .number) (DONE ∷ WRONG-SIZE ∷ [])
 
@@ -53,6 +53,22 @@ OnlyUnsound does = (u : Device) (c : Call) → isSound u ≡ true → does u c .
 abbrev pub OwnNumbers : Stepping → Type 0
 OwnNumbers does = (u : Device) (c : Call) → OneOf (does u c .answer .number) (DONE ∷ ownList c)
 
+-- each of them is answered: but for 1, by a unit that calls from power-on have made
+pub record Reachable (does : Stepping) (u : Device) : Type 0 where
+  pub setting : Setting
+  pub calls : List Call
+  pub made : after does (powerOn setting .unit) calls ≡ u
+
+pub record Answered (does : Stepping) (k : Kind) (n : ℕ) : Type 0 where
+  pub unit : Device
+  pub call : Call
+  pub kind : kindOf call ≡ k
+  pub gives : does unit call .answer .number ≡ n
+  pub reached : (n ≡ UNSOUND) ⊎ Reachable does unit
+
+abbrev pub EachAnswered : Stepping → Type 0
+EachAnswered does = (k : Kind) (n : ℕ) → OneOf n (DONE ∷ own k) → Answered does k n
+
 -- ** what a refusal leaves: the whole unit, no byte of a lent buffer, nothing told
 
 abbrev pub LeftAs : Leaves → Device → Result → Type 0
@@ -71,17 +87,22 @@ LiveAgrees does = (u v : Device) (c : Call) → Stored u → Stored v → isSoun
 
 -- ** a clear is reached
 
--- INITIATE_CLEAR and CHECK_CLEAR_STATUS, into a control buffer of `room` bytes
-abbrev pub initiate : ℕ → Call
-initiate room = setup-packet (0xA1 ∷ 5 ∷ 0 ∷ 0 ∷ 0 ∷ 0 ∷ 1 ∷ 0 ∷ []) room
+-- the setup packets, as they go over the wire
+abbrev pub INITIATE-CLEAR : List ℕ
+INITIATE-CLEAR = 0xA1 ∷ 5 ∷ 0 ∷ 0 ∷ 0 ∷ 0 ∷ 1 ∷ 0 ∷ []
 
-abbrev pub check : ℕ → Call
-check room = setup-packet (0xA1 ∷ 6 ∷ 0 ∷ 0 ∷ 0 ∷ 0 ∷ 2 ∷ 0 ∷ []) room
+abbrev pub CHECK-CLEAR-STATUS : List ℕ
+CHECK-CLEAR-STATUS = 0xA1 ∷ 6 ∷ 0 ∷ 0 ∷ 0 ∷ 0 ∷ 2 ∷ 0 ∷ []
+
+-- the answer of CHECK_CLEAR_STATUS that says SUCCESS
+abbrev pub success : Answer
+success = record { number = DONE; bytes = SUCCESS ∷ 0 ∷ []; tells = TELLS-NOTHING }
 
 -- "SUCCESS is reached after at most one poll into a large enough buffer"
 abbrev pub Reached : Stepping → Device → ℕ → ℕ → Type 0
 Reached does u control room =
-    (does u (check control) .answer .bytes ≡ SUCCESS ∷ 0 ∷ []) ⊎ (does (does u (in-poll room) .unit) (check control) .answer .bytes ≡ SUCCESS ∷ 0 ∷ [])
+    (does u (setup-packet CHECK-CLEAR-STATUS control) .answer ≡ success)
+    ⊎ (does (does u (in-poll room) .unit) (setup-packet CHECK-CLEAR-STATUS control) .answer ≡ success)
 
 pub record Ready (u : Device) (control room : ℕ) : Type 0 where
   pub sound : isSound u ≡ true
@@ -93,4 +114,4 @@ pub record Ready (u : Device) (control room : ℕ) : Type 0 where
 -- "With Bulk-IN not halted": after INITIATE_CLEAR, and where a clear has already begun
 abbrev pub ClearReached : Stepping → Type 0
 ClearReached does = (u : Device) (control room : ℕ) → Ready u control room
-    → Reached does (does u (initiate control) .unit) control room × (isClear (u .state .split) ≡ true → Reached does u control room)
+    → Reached does (does u (setup-packet INITIATE-CLEAR control) .unit) control room × (isClear (u .state .split) ≡ true → Reached does u control room)

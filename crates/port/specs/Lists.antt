@@ -13,13 +13,32 @@ bulk more = UNSOUND ∷ UNCONFIGURED ∷ WRONG-SIZE ∷ HALTED ∷ WAIT ∷ more
 abbrev pub faults : List ℕ
 faults = NOT-IN-FOURS ∷ SHORT-HEADER ∷ BAD-TAG ∷ UNKNOWN-MSGID ∷ RESERVED ∷ OUT-OF-TURN ∷ TOO-LONG ∷ WRONG-LENGTH ∷ MISALIGNED ∷ []
 
-unfoldable pub ownList : Call → List ℕ
-ownList (setup-packet s room) = UNSOUND ∷ WRONG-SIZE ∷ NO-ROW ∷ []
-ownList (out-packet s) = bulk faults
-ownList (in-poll room) = bulk []
-ownList (take-into room) = UNSOUND ∷ UNCONFIGURED ∷ NOT-NOW ∷ WRONG-SIZE ∷ []
-ownList (offer-reply bytes) = UNSOUND ∷ UNCONFIGURED ∷ WRONG-SIZE ∷ NOT-NOW ∷ []
-ownList (set-status status) = UNSOUND ∷ UNCONFIGURED ∷ []
-ownList front-panel = UNSOUND ∷ UNCONFIGURED ∷ []
-ownList bus-reset = UNSOUND ∷ []
-ownList bus-suspend = UNSOUND ∷ []
+-- the nine calls, whatever their input
+pub data Kind : Type 0 where
+  setup out poll taking offering status panel reset suspending : Kind
+
+abbrev pub kindOf : Call → Kind
+kindOf (setup-packet s room) = setup
+kindOf (out-packet s) = out
+kindOf (in-poll room) = poll
+kindOf (take-into room) = taking
+kindOf (offer-reply bytes) = offering
+kindOf (set-status value) = status
+kindOf front-panel = panel
+kindOf bus-reset = reset
+kindOf bus-suspend = suspending
+
+-- "Take: 1, 2, 16, 3. Offer: 1, 2, 3, 16. Setup: 1, 3, 15. Bus calls: 1. Panel and set status: 1, 2."
+unfoldable pub own : Kind → List ℕ
+own setup = UNSOUND ∷ WRONG-SIZE ∷ NO-ROW ∷ []
+own out = bulk faults
+own poll = bulk []
+own taking = UNSOUND ∷ UNCONFIGURED ∷ NOT-NOW ∷ WRONG-SIZE ∷ []
+own offering = UNSOUND ∷ UNCONFIGURED ∷ WRONG-SIZE ∷ NOT-NOW ∷ []
+own status = UNSOUND ∷ UNCONFIGURED ∷ []
+own panel = UNSOUND ∷ UNCONFIGURED ∷ []
+own reset = UNSOUND ∷ []
+own suspending = UNSOUND ∷ []
+
+abbrev pub ownList : Call → List ℕ
+ownList c = own (kindOf c)

@@ -1,0 +1,160 @@
+-- Each number of each call's list is answered, by computation: a unit and a call for each, in the order of the list, 0 first. All units but
+-- the unsound one are made by calls from power-on.
+-- Assumes nothing.
+use Prim.Native.Nat.{ℕ}
+use mathlib.Core.Path.{_≡_, refl, sym, ap, _∙_}
+use mathlib.Core.Bool.{false}
+use mathlib.Core.List.{List, [], _∷_}
+use mathlib.Core.Logic.{_⊎_, inl, inr, ⊎-elim}
+use lib.ListN.{replicate}
+use Rattle.rules.specs.Answers.{DONE, UNSOUND}
+use Rattle.wire.specs.Header.{OFF}
+use Rattle.port.specs.Device.{Device, Result, isSound, made, powerOn}
+use Rattle.port.specs.Step.{Call, setup-packet, out-packet, in-poll, take-into, offer-reply, set-status, front-panel, bus-reset, bus-suspend, step, after}
+use Rattle.port.specs.Lists.{Kind, setup, out, poll, taking, offering, status, panel, reset, suspending, kindOf, own}
+use Rattle.port.specs.Laws.{OneOf, Reachable, Answered, EachAnswered}
+use Rattle.port.specs.Cases.{packet, message, request}
+use Rattle.port.proofs.Opened.{computed}
+use Rattle.port.proofs.Calls.{unsound-refused}
+
+-- ** witnesses
+
+-- a witness: the calls that make its unit, or the unsound one, and the call that is answered
+data Witness : Type 0 where
+  on-fresh : Call → Witness
+  on-behind : List Call → Call → Witness
+  on-unsound : Call → Witness
+
+abbrev callOf : Witness → Call
+callOf (on-fresh c) = c
+callOf (on-behind before c) = c
+callOf (on-unsound c) = c
+
+-- SET_CONFIGURATION 1
+abbrev configure : Call
+configure = setup-packet (0x00 ∷ 9 ∷ 1 ∷ 0 ∷ 0 ∷ 0 ∷ 0 ∷ 0 ∷ []) 24
+
+abbrev behind : List Call → Device
+behind calls = after step (powerOn (record { packet = 64 }) .unit) calls
+
+-- no packet size is 7
+abbrev unitOf : Witness → Device
+unitOf (on-fresh c) = behind []
+unitOf (on-behind before c) = behind (configure ∷ before)
+unitOf (on-unsound c) = made (record { packet = 7 }) OFF
+
+-- a halt of an endpoint, by the host
+abbrev halt : ℕ → Call
+halt endpoint = setup-packet (0x02 ∷ 3 ∷ 0 ∷ 0 ∷ endpoint ∷ 0 ∷ 0 ∷ 0 ∷ []) 24
+
+-- a message of one byte with EOM, and one without
+abbrev whole : Call
+whole = message 1 1 1 (7 ∷ 0 ∷ 0 ∷ 0 ∷ [])
+
+abbrev half : Call
+half = message 1 1 0 (7 ∷ 0 ∷ 0 ∷ 0 ∷ [])
+
+-- ** the witnesses
+
+unfoldable witnesses : Kind → List Witness
+witnesses setup =
+    on-fresh (setup-packet (0x00 ∷ 9 ∷ 1 ∷ 0 ∷ 0 ∷ 0 ∷ 0 ∷ 0 ∷ []) 24)
+    ∷ on-unsound (setup-packet [] 24)
+    ∷ on-fresh (setup-packet [] 24)
+    ∷ on-fresh (setup-packet (replicate 8 0) 24)
+    ∷ []
+witnesses out =
+    on-behind [] (out-packet [])
+    ∷ on-unsound (out-packet [])
+    ∷ on-fresh (out-packet [])
+    ∷ on-behind [] (out-packet (replicate 65 0))
+    ∷ on-behind (halt 0x01 ∷ []) (out-packet [])
+    ∷ on-behind (whole ∷ []) (out-packet [])
+    ∷ on-behind [] (out-packet (replicate 13 0))
+    ∷ on-behind [] (out-packet (replicate 8 0))
+    ∷ on-behind [] (message 0 1 1 [])
+    ∷ on-behind [] (packet 3 1 1 1 [])
+    ∷ on-behind [] (message 1 0 1 [])
+    ∷ on-behind (request 1 1 ∷ []) (request 1 1)
+    ∷ on-behind [] (message 1 1025 1 [])
+    ∷ on-behind [] (message 1 1 1 [])
+    ∷ on-behind [] (message 1 1 1 (7 ∷ 0 ∷ 0 ∷ 1 ∷ []))
+    ∷ []
+witnesses poll =
+    on-behind (offer-reply (7 ∷ []) ∷ request 1 1 ∷ []) (in-poll 64)
+    ∷ on-unsound (in-poll 64)
+    ∷ on-fresh (in-poll 64)
+    ∷ on-behind [] (in-poll 63)
+    ∷ on-behind (halt 0x82 ∷ []) (in-poll 64)
+    ∷ on-behind [] (in-poll 64)
+    ∷ []
+witnesses taking =
+    on-behind (whole ∷ []) (take-into 1)
+    ∷ on-unsound (take-into 1)
+    ∷ on-fresh (take-into 1)
+    ∷ on-behind (half ∷ []) (take-into 1)
+    ∷ on-behind (whole ∷ []) (take-into 0)
+    ∷ []
+witnesses offering =
+    on-behind [] (offer-reply (7 ∷ []))
+    ∷ on-unsound (offer-reply (7 ∷ []))
+    ∷ on-fresh (offer-reply (7 ∷ []))
+    ∷ on-behind [] (offer-reply [])
+    ∷ on-behind (offer-reply (7 ∷ []) ∷ []) (offer-reply (7 ∷ []))
+    ∷ []
+witnesses status = on-behind [] (set-status 0) ∷ on-unsound (set-status 0) ∷ on-fresh (set-status 0) ∷ []
+witnesses panel = on-behind [] front-panel ∷ on-unsound front-panel ∷ on-fresh front-panel ∷ []
+witnesses reset = on-fresh bus-reset ∷ on-unsound bus-reset ∷ []
+witnesses suspending = on-fresh bus-suspend ∷ on-unsound bus-suspend ∷ []
+
+-- ** they answer what the list says
+
+abbrev numbers : List Witness → List ℕ
+numbers [] = []
+numbers (w ∷ ws) = step (unitOf w) (callOf w) .answer .number ∷ numbers ws
+
+-- all are of the kind
+abbrev Fitting : Kind → List Witness → Type 0
+Fitting k [] = Unit {0}
+Fitting k (w ∷ ws) = (kindOf (callOf w) ≡ k) × Fitting k ws
+
+answer : (k : Kind) → numbers (witnesses k) ≡ DONE ∷ own k
+unfolding computed witnesses own
+answer setup = refl
+answer out = refl
+answer poll = refl
+answer taking = refl
+answer offering = refl
+answer status = refl
+answer panel = refl
+answer reset = refl
+answer suspending = refl
+
+fitting : (k : Kind) → Fitting k (witnesses k)
+unfolding witnesses
+fitting setup = (refl, (refl, (refl, (refl, tt))))
+fitting out = (refl, (refl, (refl, (refl, (refl, (refl, (refl, (refl, (refl, (refl, (refl, (refl, (refl, (refl, (refl, tt)))))))))))))))
+fitting poll = (refl, (refl, (refl, (refl, (refl, (refl, tt))))))
+fitting taking = (refl, (refl, (refl, (refl, (refl, tt)))))
+fitting offering = (refl, (refl, (refl, (refl, (refl, tt)))))
+fitting status = (refl, (refl, (refl, tt)))
+fitting panel = (refl, (refl, (refl, tt)))
+fitting reset = (refl, (refl, tt))
+fitting suspending = (refl, (refl, tt))
+
+not-seven : isSound (made (record { packet = 7 }) OFF) ≡ false
+unfolding computed
+not-seven = refl
+
+reachable : (w : Witness) → (step (unitOf w) (callOf w) .answer .number ≡ UNSOUND) ⊎ Reachable step (unitOf w)
+unfolding after
+reachable (on-fresh c) = inr (record { setting = record { packet = 64 }; calls = []; made = refl })
+reachable (on-behind before c) = inr (record { setting = record { packet = 64 }; calls = configure ∷ before; made = refl })
+reachable (on-unsound c) = inl (ap (λ (r : Result). r .answer .number) (unsound-refused (made (record { packet = 7 }) OFF) c not-seven))
+
+found : (k : Kind) (n : ℕ) (ws : List Witness) → Fitting k ws → OneOf n (numbers ws) → Answered step k n
+found k n (w ∷ ws) a (inl e) = record { unit = unitOf w; call = callOf w; kind = a .0; gives = sym e; reached = ⊎-elim (λ z. inl (e ∙ z)) inr (reachable w) }
+found k n (w ∷ ws) a (inr o) = found k n ws (a .1) o
+
+pub each-answered : EachAnswered step
+each-answered k n o = found k n (witnesses k) (fitting k) (rw (answer k) o)
