@@ -70,7 +70,7 @@ unsound-first : {B : Type 0} (f : ℕ → B) (t : Bool) (z : B) → t ≡ false 
 unsound-first f t z e = at-true _ _ _ (no-true _ e)
 
 -- a plan that keeps is a refusal
-kept : (u : Device) (s : List ℕ) (n : ℕ) → carriedOut u s (planned (u .state) (Keep n)) ≡ refused u n
+pub kept : (u : Device) (s : List ℕ) (n : ℕ) → carriedOut u s (planned (u .state) (Keep n)) ≡ refused u n
 unfolding planned
 kept u s n = ap (λ (m : List ℕ). record { unit = record { message = m; reply = u .reply; state = u .state }; answer = number n }) (sym (paste-zero (u .message) (outOf (u .state) .held) s))
 
@@ -192,7 +192,7 @@ module _ (u : Device) where
       (cases (count =ᵇ 0)); reply = h .reply }
 
   -- a plan that halts does nothing else
-  halted : (s : List ℕ) (n : ℕ) → carriedOut u s (planned (u .state) (Halt n)) ≡ refused (withState u (haltedOut (u .state))) n
+  pub halted : (s : List ℕ) (n : ℕ) → carriedOut u s (planned (u .state) (Halt n)) ≡ refused (withState u (haltedOut (u .state))) n
   unfolding planned
   halted s n = ap (λ (m : List ℕ). record { unit = record { message = m; reply = u .reply; state = haltedOut (u .state) }; answer = number n }) (sym (paste-zero (u .message) (outOf (u .state) .held) s))
 

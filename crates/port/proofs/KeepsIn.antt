@@ -27,7 +27,7 @@ use Rattle.port.specs.declared.types.Remote.{Remote}
 use Rattle.port.specs.declared.types.Split.{Split}
 use Rattle.port.specs.declared.types.Split.the-variants.{None, AbortOut, AbortIn, Clear}
 use Rattle.port.specs.declared.types.State.{State}
-use Rattle.port.proofs.Soundness.{PortSound, OpenOut, RestingOut, OutSound, Idle, AskedIn, SendingIn, Phase, is-closed, is-asked, is-sending, is-owed, InSound, ClearSound, SplitSound, Sound}
+use Rattle.port.proofs.Soundness.{PortSound, OpenOut, RestingOut, OutSound, Idle, AskedIn, SendingIn, Phase, is-closed, is-asked, is-sending, is-owed, InSound, ClearSound, SplitSound, Sound, SameTransfer, phase-kept}
 use Rattle.port.proofs.KeepsOut.{broken-sound, halted-sound}
 
 -- ** Bulk-IN
@@ -38,7 +38,7 @@ unfolding shut
 shut-sound b h = record { halted = h .halted; reply = h .reply; phase = is-closed refl refl (record { asked = refl; enabled = refl; term = refl; left = refl; sent = refl }) }
 
 -- a Bulk-IN side that is closed, or that owes no packet more than before: no split minds it, but for what a clear asks of it
-in-split : (s : Split) (o : BulkOut) (b b′ : BulkIn) → SplitSound s o b → (b′ .phase ≡ OWED → b .phase ≡ OWED) → (isClear s ≡ true → (b′ .unsent ≡ 0) × (b′ .recent ≡ 0) × ((b′ .phase ≡ CLOSED) ⊎ (b′ .phase ≡ OWED))) → SplitSound s o b′
+pub in-split : (s : Split) (o : BulkOut) (b b′ : BulkIn) → SplitSound s o b → (b′ .phase ≡ OWED → b .phase ≡ OWED) → (isClear s ≡ true → (b′ .unsent ≡ 0) × (b′ .recent ≡ 0) × ((b′ .phase ≡ CLOSED) ⊎ (b′ .phase ≡ OWED))) → SplitSound s o b′
 in-split None o b b′ k p c = λ e. k (p e)
 in-split (AbortOut count) o b b′ k p c = (k .0, k .1, λ e. k .2 (p e))
 in-split (AbortIn count) o b b′ k p c = k
@@ -52,7 +52,7 @@ clear-in (AbortIn count) o b k e = absurd (false≢true e)
 clear-in Clear o b k e = k
 
 module _ (st : State) (h : Sound st) where
-  clears : isClear (st .split) ≡ true → ClearSound (outOf st) (inOf st)
+  pub clears : isClear (st .split) ≡ true → ClearSound (outOf st) (inOf st)
   clears = clear-in (st .split) _ _ (h .split)
 
   with-in : (b : BulkIn) → InSound b → (b .phase ≡ OWED → inOf st .phase ≡ OWED) → (isClear (st .split) ≡ true → (b .unsent ≡ 0) × (b .recent ≡ 0) × ((b .phase ≡ CLOSED) ⊎ (b .phase ≡ OWED))) → Sound (withIn st b)
@@ -235,13 +235,7 @@ module _ (st : State) (h : Sound st) where
 
   -- the halt of Bulk-IN is its own
   halt-in : (b : BulkIn) (halted : ℕ) → halted ≤ 1 → InSound b → InSound (withInHalted b halted)
-  halt-in b halted e i = record { halted = e; reply = i .reply; phase = by (i .phase) }
-    where
-      by : Phase b → Phase (withInHalted b halted)
-      by (is-closed e t j) = is-closed e t (record { asked = j .asked; enabled = j .enabled; term = j .term; left = j .left; sent = j .sent })
-      by (is-asked e a) = is-asked e (record { tag = a .tag; some = a .some; most = a .most; enabled = a .enabled; term = a .term; left = a .left; sent = a .sent })
-      by (is-sending e a) = is-sending e (record { tag = a .tag; stored = a .stored; count = a .count; asked = a .asked; enabled = a .enabled; term = a .term })
-      by (is-owed e t j) = is-owed e t (record { asked = j .asked; enabled = j .enabled; term = j .term; left = j .left; sent = j .sent })
+  halt-in b halted e i = record { halted = e; reply = i .reply; phase = phase-kept b _ (record { phase = refl; tag = refl; asked = refl; enabled = refl; term = refl; left = refl; sent = refl; unsent = λ _. refl }) (i .phase) }
 
   halted-in-sound : (halted : ℕ) → halted ≤ 1 → Sound (withIn st (withInHalted (inOf st) halted))
   halted-in-sound halted e = with-in st h _ (halt-in (inOf st) halted e (h .inward)) (λ p. p) (λ c. let k = clears st h c in (k .unsent, k .in-tag, k .phase))
@@ -318,10 +312,7 @@ module _ (st : State) (h : Sound st) where
   pub offered-sound : (n : ℕ) → n ≤ STORE → hasReply (inOf st) ≡ false → isClear (st .split) ≡ false → Sound (withIn st (offered (inOf st) n))
   unfolding offered
   offered-sound n e r c =
-      with-in st h _ (record { halted = h .inward .halted; reply = omega arith; phase = by (h .inward .phase) }) (λ p. p) (λ k. absurd (true≢false (sym k ∙ c)))
+      with-in st h _ (record { halted = h .inward .halted; reply = omega arith; phase = phase-kept (inOf st) _ same (h .inward .phase) }) (λ p. p) (λ k. absurd (true≢false (sym k ∙ c)))
     where
-      by : Phase (inOf st) → Phase (offered (inOf st) n)
-      by (is-closed e t j) = is-closed e t (record { asked = j .asked; enabled = j .enabled; term = j .term; left = j .left; sent = j .sent })
-      by (is-asked e a) = is-asked e (record { tag = a .tag; some = a .some; most = a .most; enabled = a .enabled; term = a .term; left = a .left; sent = a .sent })
-      by (is-sending e a) = absurd (eqb-false (inOf st .phase) SENDING (none-right _ _ r) e)
-      by (is-owed e t j) = is-owed e t (record { asked = j .asked; enabled = j .enabled; term = j .term; left = j .left; sent = j .sent })
+      same : SameTransfer (inOf st) (offered (inOf st) n)
+      same = record { phase = refl; tag = refl; asked = refl; enabled = refl; term = refl; left = refl; sent = refl; unsent = λ e. absurd (eqb-false (inOf st .phase) SENDING (none-right _ _ r) e) }

@@ -53,7 +53,7 @@ size-long p e = ⊎-elim (λ h. let f = eqb-true p FULL-SPEED h in omega arith) 
 -- ** a halt, or the end of one
 
 module _ (st : State) (h : Sound st) where
-  out-held : outOf st .held ≤ STORE
+  pub out-held : outOf st .held ≤ STORE
   out-held = ⊎-elim (λ w. let r = w .1 .room in omega arith) (λ w. w .1 .held) (h .out)
 
   out-ready : outOf st .ready ≤ 1

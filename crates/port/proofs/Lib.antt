@@ -7,5 +7,7 @@ pub mod Calls
 pub mod Opened
 pub mod Rows
 pub mod Refuted
+pub mod Alive
+pub mod Agree
 pub mod Clearing
 pub mod Answered

@@ -245,6 +245,40 @@ pub data Phase (b : BulkIn) : Type 0 where
   is-sending : b .phase ≡ SENDING → SendingIn b → Phase b
   is-owed : b .phase ≡ OWED → (b .tag ≡ 0 → ⊥) → Idle b → Phase b
 
+-- two Bulk-IN sides with the same transfer
+pub record SameTransfer (b b′ : BulkIn) : Type 0 where
+  pub phase : b′ .phase ≡ b .phase
+  pub tag : b′ .tag ≡ b .tag
+  pub asked : b′ .asked ≡ b .asked
+  pub enabled : b′ .enabled ≡ b .enabled
+  pub term : b′ .term ≡ b .term
+  pub left : b′ .left ≡ b .left
+  pub sent : b′ .sent ≡ b .sent
+  pub unsent : b .phase ≡ SENDING → b′ .unsent ≡ b .unsent
+
+pub phase-kept : (b b′ : BulkIn) → SameTransfer b b′ → Phase b → Phase b′
+phase-kept b b′ k (is-closed e t j) =
+    is-closed (k .phase ∙ e) (k .tag ∙ t) (record { asked = k .asked ∙ j .asked; enabled = k .enabled ∙ j .enabled; term = k .term ∙ j .term; left = k .left ∙ j .left; sent = k .sent ∙ j .sent })
+phase-kept b b′ k (is-asked e a) =
+    is-asked (k .phase ∙ e) (record {
+      tag = λ z. a .tag (sym (k .tag) ∙ z);
+      some = λ z. a .some (sym (k .asked) ∙ z);
+      most = let m = a .most in let q = k .asked in omega arith;
+      enabled = let m = a .enabled in let q = k .enabled in omega arith;
+      term = λ z. k .term ∙ a .term (sym (k .enabled) ∙ z);
+      left = k .left ∙ a .left;
+      sent = k .sent ∙ a .sent;
+    })
+phase-kept b b′ k (is-sending e a) =
+    let q = k .left in
+    let r = k .sent in
+    let w = k .unsent e in
+    let m = a .stored in
+    let n = a .count in
+    is-sending (k .phase ∙ e) (record { tag = λ z. a .tag (sym (k .tag) ∙ z); stored = omega arith; count = omega arith; asked = k .asked ∙ a .asked; enabled = k .enabled ∙ a .enabled; term = k .term ∙ a .term })
+phase-kept b b′ k (is-owed e t j) =
+    is-owed (k .phase ∙ e) (λ z. t (sym (k .tag) ∙ z)) (record { asked = k .asked ∙ j .asked; enabled = k .enabled ∙ j .enabled; term = k .term ∙ j .term; left = k .left ∙ j .left; sent = k .sent ∙ j .sent })
+
 phase-of : (b : BulkIn) → phaseSound b ≡ true → Phase b
 unfolding phaseSound
 phase-of b =
