@@ -10,19 +10,20 @@ use native.Mathlib.Omega.{arith}
 use lib.ListN.{length}
 use borrow.Author.Tests.{eq-eqb, ne-eqb, eqb-true, le-ltb}
 use Rattle.rules.specs.Choice.{_=ᵇ_, _<ᵇ_, no, pick}
-use Rattle.rules.proofs.Choice.{decide-none, at-true, at-false, pick-all, no-false, or-none, and-left, eq-neb}
+use Rattle.rules.proofs.Choice.{decide-all, decide-none, at-true, at-false, pick-all, no-false, or-none, and-left, eq-neb}
 use Rattle.wire.specs.Header.{OFF}
 use Rattle.wire.specs.Setup.{SETUP, readSetup}
 use Rattle.wire.specs.declared.types.Row.{Row}
 use Rattle.wire.specs.declared.types.Row.the-variants.{InitiateClear, CheckClearStatus}
 use Rattle.wire.specs.declared.types.Setup.the-variants.{Asks}
-use Rattle.port.specs.Parts.{CLOSED, OWED, on, isOpenIn, isOwed, isClear, packetSize, outOf, inOf, isConfigured, withIn, shut}
-use Rattle.port.specs.In.{Said, refuse, says, inRules, send, poll}
+use Rattle.port.specs.Parts.{CLOSED, ASKED, OWED, on, isOpenIn, isOwed, isClear, packetSize, outOf, inOf, isConfigured, withIn, shut}
+use Rattle.port.specs.In.{Said, refuse, says, inRules, fixed, started, gone, send, poll}
+use Rattle.port.specs.Survivors.{Survivors, survivors}
 use Rattle.port.specs.Rows.{clearing, initiateClear, checkClear, answerRow}
 use Rattle.port.specs.Device.{Device, Result, isSound, withState, unsentOf}
 use Rattle.port.specs.Calls.{CONTROL, refused, said, setupRules, answered, setup, bulkIn}
 use Rattle.port.specs.Step.{setup-packet, in-poll, step}
-use Rattle.port.specs.Laws.{INITIATE-CLEAR, CHECK-CLEAR-STATUS, success, Reached, Ready, ClearReached}
+use Rattle.port.specs.Laws.{INITIATE-CLEAR, CHECK-CLEAR-STATUS, success, Reached, Ready, ClearReached, Survive}
 use Rattle.port.specs.declared.types.BulkIn.{BulkIn}
 use Rattle.port.specs.declared.types.State.{State}
 use Rattle.port.proofs.KeepsOut.{cases}
@@ -115,3 +116,40 @@ pub clear-reached : ClearReached step
 clear-reached u control room h =
     let b = begun u control room h in
     (subst (λ (r : Result). Reached step (r .unit) control room) (sym (initiated u control room h)) (reached _ control room (b .0) (b .1)), reached u control room h)
+
+-- ** the survivors
+
+initiate-survive : (st : State) → survivors (initiateClear st .state) ≡ survivors st
+unfolding initiateClear clearing
+initiate-survive st =
+    pick-all (λ (r : Said). survivors (r .state) ≡ survivors st) (isClear (st .split)) _ _ (λ _. refl)
+    (λ _. pick-all (λ (b : BulkIn). survivors (withIn st b) ≡ survivors st) (isOpenIn (inOf st)) _ _ (λ _. refl) (λ _. refl))
+
+check-survive : (st : State) → survivors (checkClear st .state) ≡ survivors st
+unfolding checkClear
+check-survive st =
+    pick-all (λ (r : Said). survivors (r .state) ≡ survivors st) (no (isClear (st .split))) _ _ (λ _. refl)
+    (λ _. pick-all (λ (r : Said). survivors (r .state) ≡ survivors st) (isOwed (inOf st)) _ _ (λ _. refl) (λ _. refl))
+
+send-survive : (st : State) (x : List ℕ) → survivors (send st x .state) ≡ survivors st
+unfolding send shut gone started fixed
+send-survive st x =
+    pick-all (λ (b : BulkIn). survivors (withIn st b) ≡ survivors st) _ _ _ (λ _. ap over begun-halted) (λ _. ap over begun-halted)
+  where
+    over : ℕ → Survivors
+    over halted = record { ren = st .small .port .ren; remote = st .remote; status = st .small .port .status; halted = halted }
+    begun-halted : started (inOf st) x .halted ≡ inOf st .halted
+    begun-halted = pick-all (λ (b : BulkIn). b .halted ≡ inOf st .halted) (inOf st .phase =ᵇ ASKED) _ _ (λ _. refl) (λ _. refl)
+
+poll-survive : (st : State) (x : List ℕ) (room : ℕ) → survivors (poll st x room .state) ≡ survivors st
+unfolding poll shut
+poll-survive st x room =
+    decide-all (λ (r : Said). survivors (r .state) ≡ survivors st) (refuse st) (inRules st room) _ (refl, (refl, (refl, (refl, (refl, tt)))))
+    (λ _. pick-all (λ (r : Said). survivors (r .state) ≡ survivors st) (isOwed (inOf st)) _ _ (λ _. refl) (λ _. send-survive st x))
+
+pub survive : Survive step
+unfolding step bulkIn
+survive u control room h =
+    (ap (λ (r : Result). survivors (r .unit .state)) (initiated u control room h) ∙ initiate-survive (u .state),
+    poll-survive (u .state) (unsentOf u) room,
+    ap (λ (r : Result). survivors (r .unit .state)) (checked u control room h) ∙ check-survive (u .state))

@@ -6,7 +6,9 @@ pub mod KeepsIn
 pub mod Calls
 pub mod Opened
 pub mod Rows
+pub mod Caught
 pub mod Refuted
+pub mod Broken
 pub mod Alive
 pub mod Agree
 pub mod Clearing

@@ -1,13 +1,13 @@
 -- The statement is refuted, by computation, of each idle unit: one answer of one row is not the paper's.
 -- Assumes nothing.
-use Prim.Native.Nat.{ℕ}
+use Prim.Native.Nat.{ℕ, _<_, _/_, _%_}
 use mathlib.Core.Path.{_≡_, refl, ap}
 use mathlib.Core.List.{List, []}
 use native.Mathlib.Omega.{arith}
 use lib.ListN.{length, getD}
 use Rattle.port.specs.In.{Answer, number}
 use Rattle.port.specs.Cases.{table, played, Cases}
-use Rattle.port.specs.Idle.{constant, refusing, doingNothing, pretending, recount, madeUp}
+use Rattle.port.specs.Idle.{constant, refusing, idling, doingNothing, pretending, madeUp}
 use Rattle.port.proofs.Opened.{computed}
 
 -- answer j of row i
@@ -25,7 +25,11 @@ no-constant-answer a e =
 pub no-refusing : (n : ℕ) → Cases (refusing n) → ⊥
 no-refusing n e = no-constant-answer (number n) e
 
--- case a: the packet is answered as before SET_CONFIGURATION
+-- case a: there is nothing to take behind the packet; or the packet is answered as before SET_CONFIGURATION
+pub no-idling : Cases idling → ⊥
+unfolding computed table played idling
+no-idling e = let none : _≡_ {A = ℕ} 16 0 = ap (λ (rows : List (List Answer)). at 0 2 rows .number) e in omega arith
+
 pub no-doing-nothing : Cases doingNothing → ⊥
 unfolding computed table played doingNothing
 no-doing-nothing e = let two : _≡_ {A = ℕ} 2 0 = ap (λ (rows : List (List Answer)). at 0 1 rows .number) e in omega arith
@@ -35,7 +39,10 @@ pub no-pretending : Cases pretending → ⊥
 unfolding computed table played pretending
 no-pretending e = let none : _≡_ {A = ℕ} 0 16 = ap (λ (rows : List (List Answer)). at 2 2 rows .number) e in omega arith
 
--- case g: 52 data bytes came, in a packet of 64
-pub no-made-up-count : Cases (madeUp 64) → ⊥
-unfolding computed table played madeUp recount
-no-made-up-count e = let count : _≡_ {A = ℕ} 64 0x34 = ap (λ (rows : List (List Answer)). getD (at 9 3 rows .bytes) 4 0) e in omega arith
+-- case g: 52 data bytes came, and no other count that two bytes hold is the paper's
+pub no-made-up-count : (n : ℕ) → n < 65536 → (n ≡ 52 → ⊥) → Cases (madeUp n) → ⊥
+unfolding computed table played madeUp
+no-made-up-count n small wrong e =
+    let low : n % 256 ≡ 0x34 = ap (λ (rows : List (List Answer)). getD (at 9 3 rows .bytes) 4 0) e in
+    let high : n / 256 % 256 ≡ 0 = ap (λ (rows : List (List Answer)). getD (at 9 3 rows .bytes) 5 0) e in
+    wrong (omega arith)

@@ -1,14 +1,14 @@
 -- 01, "The idle units a promise must catch".
 -- Assumes nothing.
 use Prim.Native.Nat.{ℕ}
-use mathlib.Core.List.{List, []}
+use mathlib.Core.List.{List, _++_}
+use lib.ListN.{length, take}
 use Rattle.rules.specs.Choice.{_=ᵇ_, pick}
 use Rattle.rules.specs.Answers.{DONE}
-use Rattle.port.specs.Parts.{outOf, withSplit}
+use Rattle.wire.specs.Bytes.{bytes4}
+use Rattle.port.specs.Parts.{outOf, isConfigured}
 use Rattle.port.specs.In.{Answer, number}
-use Rattle.port.specs.declared.types.Split.{Split}
-use Rattle.port.specs.declared.types.Split.the-variants.{None, AbortOut, AbortIn, Clear}
-use Rattle.port.specs.Device.{Result, withState}
+use Rattle.port.specs.Device.{Device, Result}
 use Rattle.port.specs.Step.{Call, Stepping, step}
 
 -- one constant answer, whatever it is; "a unit that always refuses" is the one with a number and no bytes
@@ -18,7 +18,10 @@ constant a u c = record { unit = u; answer = a }
 abbrev pub refusing : ℕ → Stepping
 refusing n = constant (number n)
 
--- answers like ours, and does nothing
+-- answers like ours, and does nothing: once it is configured, or never
+unfoldable pub idling : Stepping
+idling u c = pick (isConfigured (u .state)) (record { unit = u; answer = step u c .answer }) (step u c)
+
 unfoldable pub doingNothing : Stepping
 doingNothing u c = record { unit = u; answer = step u c .answer }
 
@@ -26,14 +29,12 @@ doingNothing u c = record { unit = u; answer = step u c .answer }
 unfoldable pub pretending : Stepping
 pretending u c = pick (outOf (u .state) .recent =ᵇ 0) (step u c) (record { unit = u; answer = number DONE })
 
--- counts an aborted transfer as it likes
-unfoldable pub recount : ℕ → Split → Split
-recount n None = None
-recount n (AbortOut count) = AbortOut n
-recount n (AbortIn count) = AbortIn n
-recount n Clear = Clear
-
+-- gives an abort's count as it likes: the last four of the eight bytes that CHECK_ABORT answers
 unfoldable pub madeUp : ℕ → Stepping
 madeUp n u c =
     let r = step u c in
-    record { unit = withState (r .unit) (withSplit (r .unit .state) (recount n (r .unit .state .split))); answer = r .answer }
+    let bytes = r .answer .bytes in
+    record {
+      unit = r .unit;
+      answer = record { number = r .answer .number; bytes = pick (length bytes =ᵇ 8) (take 4 bytes ++ bytes4 n) bytes; tells = r .answer .tells };
+    }

@@ -8,13 +8,15 @@ use mathlib.Core.Logic.{_⊎_}
 use lib.ListN.{length}
 use Rattle.rules.specs.Answers.{DONE, UNSOUND, WRONG-SIZE, SUCCESS, TELLS-NOTHING, Leaves, as-ruled, unchanged, out-halted, leaves}
 use Rattle.wire.specs.Header.{ON, OFF}
-use Rattle.port.specs.Parts.{STORE, packetSize, inOf, isConfigured, isClear, haltedOut}
+use Rattle.port.specs.Parts.{STORE, isOpenOut, unfinished, packetSize, outOf, inOf, isConfigured, isClear, haltedOut}
 use Rattle.port.specs.In.{Answer, number}
 use Rattle.port.specs.declared.types.Setting.{Setting}
 use Rattle.port.specs.Device.{Device, Result, isSound, withState, powerOn}
 use Rattle.port.specs.Calls.{CONTROL, refused}
 use Rattle.port.specs.Step.{Call, setup-packet, in-poll, Stepping, after}
 use Rattle.port.specs.Live.{live}
+use Rattle.port.specs.Survivors.{survivors}
+use Rattle.port.specs.Breaks.{isBreak}
 use Rattle.port.specs.Lists.{Kind, kindOf, own, ownList}
 
 -- n is one of the list
@@ -85,6 +87,12 @@ abbrev pub LiveAgrees : Stepping → Type 0
 LiveAgrees does = (u v : Device) (c : Call) → Stored u → Stored v → isSound u ≡ true → isSound v ≡ true → live u ≡ live v
     → (does u c .answer ≡ does v c .answer) × (live (does u c .unit) ≡ live (does v c .unit))
 
+-- ** a break drops what is open and unfinished, at once
+
+abbrev pub BreakDrops : Stepping → Type 0
+BreakDrops does = (u : Device) (c : Call) → isSound u ≡ true → isBreak c (does u c .answer) ≡ true
+    → (isOpenOut (outOf (does u c .unit .state)) ≡ false) × (unfinished (outOf (does u c .unit .state)) ≡ false)
+
 -- ** a clear is reached
 
 -- the setup packets, as they go over the wire
@@ -115,3 +123,11 @@ pub record Ready (u : Device) (control room : ℕ) : Type 0 where
 abbrev pub ClearReached : Stepping → Type 0
 ClearReached does = (u : Device) (control room : ℕ) → Ready u control room
     → Reached does (does u (setup-packet INITIATE-CLEAR control) .unit) control room × (isClear (u .state .split) ≡ true → Reached does u control room)
+
+-- ** "The four things that survive" a clear: none of its three calls moves them
+
+abbrev pub Survive : Stepping → Type 0
+Survive does = (u : Device) (control room : ℕ) → Ready u control room
+    → (survivors (does u (setup-packet INITIATE-CLEAR control) .unit .state) ≡ survivors (u .state))
+    × (survivors (does u (in-poll room) .unit .state) ≡ survivors (u .state))
+    × (survivors (does u (setup-packet CHECK-CLEAR-STATUS control) .unit .state) ≡ survivors (u .state))

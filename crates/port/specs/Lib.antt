@@ -9,6 +9,8 @@ pub mod Device
 pub mod Calls
 pub mod Step
 pub mod Live
+pub mod Survivors
+pub mod Breaks
 pub mod Lists
 pub mod Laws
 pub mod Cases
