@@ -34,7 +34,7 @@ use Rattle.port.specs.Device.{Device, Result, isSound, withState, heldOf
 use Rattle.port.specs.Calls.{refused, done, said, carriedOut, bulkOut, bulkIn, setupRules, answered, setup, takeRules, released, take-message, offerRules, offered, offer, thermostatRules, setStatus, panel, busRules, busReset, suspend}
 use Rattle.port.specs.Step.{Call, setup-packet, out-packet, in-poll, take-into, offer-reply, set-status, front-panel, bus-reset, bus-suspend, step}
 use Rattle.port.specs.Lists.{bulk, faults, own, ownList}
-use Rattle.port.specs.Laws.{OneOf, Stored, PowerOnSound, PowerOnNumbers, KeepsSound, KeepsStored, UnsoundRefused, OnlyUnsound, OwnNumbers, LeftAs, LeavesTable}
+use Rattle.port.specs.Laws.{OneOf, Stored, PowerOnSound, PowerOnAnswers, Orders, KeepsSound, KeepsStored, UnsoundRefused, OnlyUnsound, OwnNumbers, LeftAs, LeavesTable}
 use Rattle.port.specs.declared.types.Setting.{Setting}
 use Rattle.port.specs.declared.types.Split.{Split}
 use Rattle.port.specs.declared.types.Split.the-variants.{None, AbortOut, AbortIn, Clear}
@@ -59,9 +59,15 @@ power-on-sound setting =
     size-64 : isSize FULL-SPEED ≡ true
     size-64 = or-left _ _ refl
 
-pub power-on-numbers : PowerOnNumbers
+pub power-on-answers : PowerOnAnswers
 unfolding powerOn
-power-on-numbers setting = pick-all (λ (r : Result). OneOf (r .answer .number) (DONE ∷ WRONG-SIZE ∷ [])) (isSize (setting .packet)) _ _ (λ _. inl refl) (λ _. inr (inl refl))
+power-on-answers setting =
+    ⊎-elim (λ e. inl (e, at-true _ _ _ e)) (λ e. inr (e, at-false _ _ _ e)) (cases (isSize (setting .packet)))
+
+-- ** the orders
+
+pub orders : Orders
+orders st u s h n = record { packets = refl; headers = refl; continuing = refl; polls = refl; setups = refl; takes = refl; offers = refl; panels = refl; buses = refl; aborts = refl }
 
 -- ** an unsound unit
 

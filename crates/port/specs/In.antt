@@ -114,7 +114,7 @@ inRules st room =
     on (inOf st .halted) ⇒ HALTED ∣
     nothingToSend (inOf st) ⇒ WAIT ∣ []
 
--- a poll into a buffer of `room` bytes: the owed packet is empty "and closes the transfer"
+-- a poll into a buffer of `room` bytes: the owed packet is empty, and polling it "closes the transfer"
 unfoldable pub poll : State → List ℕ → ℕ → Said
 poll st unsent room =
     decide (refuse st) (inRules st room)

@@ -157,7 +157,7 @@ planned st (Accept h count) = accepted st h count
 unfoldable pub outPlan : State → List ℕ → Plan
 outPlan st s = planned st (outcome st s)
 
--- ** what can be carried out without a sum that passes its type: every outcome of a sound state can (proofs/Out.antt)
+-- ** what can be carried out without a sum that passes its type: every outcome can, and the code that does it leans on that
 
 abbrev pub CanAbsorb : BulkOut → ℕ → Type 0
 CanAbsorb o count = (count ≤ o .left) × (o .held + o .left ≤ STORE) × (o .got + o .left ≤ STORE)

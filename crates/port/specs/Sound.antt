@@ -1,5 +1,5 @@
--- When a unit is sound: a test over the small parts, which reads no store. What a closed transfer leaves unused is 0, so that units that
--- behave alike are alike but for bytes of the stores and the place of the reply in its store.
+-- When a unit is sound: a test over the small parts, which reads no store. What a transfer does not use in its phase is 0, so that nothing
+-- is left over there from before. For each clause proofs/Caught.antt has a state that it alone catches.
 -- Assumes nothing.
 use Prim.Native.Nat.{ℕ, _-_}
 use mathlib.Core.Bool.{Bool, false}

@@ -1,6 +1,23 @@
 // The parts of a unit but for its two stores, and what is decided over them. Flags are 0 or 1: C shares these structs as they stand.
 use wire::types::Header;
 
+// Bytes that a store holds.
+pub const STORE: u16 = 1024;
+
+// The packet sizes.
+pub const FULL_SPEED: u16 = 64;
+
+pub const HIGH_SPEED: u16 = 512;
+
+// The phases of a Bulk-IN transfer.
+pub const CLOSED: u8 = 0;
+
+pub const ASKED: u8 = 1;
+
+pub const SENDING: u8 = 2;
+
+pub const OWED: u8 = 3;
+
 // What power-on is given.
 #[repr(C)]
 pub struct Setting {

@@ -1,4 +1,4 @@
--- Document 01's table of numbers, its statuses, and what an answer tells the thermostat: each name is given its number here and nowhere else.
+-- Document 01's table of numbers, its statuses, and what an answer tells: definitions have each number from here, and from nowhere else.
 -- Assumes nothing.
 use Prim.Native.Nat.{ℕ}
 use mathlib.Core.List.{List, [], _∷_}
@@ -112,7 +112,7 @@ SPLIT-NOT-IN-PROGRESS = 0x82
 abbrev pub SPLIT-IN-PROGRESS : ℕ
 SPLIT-IN-PROGRESS = 0x83
 
--- ** what an answer tells the thermostat, beside its number
+-- ** what an answer tells beside its number: the thermostat to trigger, the light to pulse
 
 abbrev pub TELLS-NOTHING : ℕ
 TELLS-NOTHING = 0

@@ -7,6 +7,9 @@ use port::types::Plan;
 use port::types::Remote;
 use port::types::Small;
 use port::types::State;
+use port::types::ASKED;
+use port::types::CLOSED;
+use port::types::STORE;
 use rules::DONE;
 use rules::HALTED;
 use rules::MISALIGNED;
@@ -21,6 +24,7 @@ use rules::WAIT;
 use rules::WRONG_LENGTH;
 use rules::WRONG_SIZE;
 use wire::header::read_header;
+use wire::header::HEADER;
 use wire::numbers::all_zero;
 use wire::types::Header;
 use wire::types::Read;
@@ -33,6 +37,11 @@ ghost use Rattle.wire.specs.Header.{readHeader, headerNumber};
 ghost use Rattle.port.specs.Parts.{unfinished, broken, withOut};
 ghost use Rattle.port.specs.Remote.{headed, withRenOn};
 ghost use Rattle.port.specs.Out.{alignment, fitRules, more, requestOutOfTurn, outOfTurn, dataLength, headerRules, headerSays, outRules, outcome, absorbed, opened, tagged, requested, CanAbsorb, CanAccept, Can, Room, plain, accepted, planned, outPlan};
+
+// A store's bytes, as a TransferSize and as a length.
+const MOST: u32 = STORE as u32;
+
+const ROOM: usize = STORE as usize;
 
 fn wide(x: u16) -> usize
     ensures { λ r. ⌜ (r ≡ x) × (r < 65536) ⌝ }
@@ -118,7 +127,7 @@ fn unfinished(o: BulkOut) -> bool
 fn request_out_of_turn(o: BulkOut, b: BulkIn) -> bool
     ensures { λ r. ⌜ r ≡ requestOutOfTurn o b ⌝ }
 {
-    if b.phase != 0 {
+    if b.phase != CLOSED {
         return true;
     }
     unfinished(o)
@@ -174,14 +183,14 @@ fn header_fault(st: State, s: &[u8], h: Header) -> u8
         return OUT_OF_TURN;
     }
     let size = data_length(h);
-    if 1024 < size {
+    if MOST < size {
         return TOO_LONG;
     }
     let n = size as usize;
-    if 1024 < wide(o.held) + n {
+    if ROOM < wide(o.held) + n {
         return TOO_LONG;
     }
-    fit(wide(st.small.port.setting.packet), s, 12, n)
+    fit(wide(st.small.port.setting.packet), s, HEADER, n)
 }
 
 // The number of a fault; 0 for a header that is read.
@@ -208,7 +217,7 @@ fn header_says(st: State, s: &[u8]) -> Outcome
         return Outcome::Halt { number };
     }
     let size = data_length(header) as usize;
-    let count = least(size, s.len() - 12);
+    let count = least(size, s.len() - HEADER);
     Outcome::Accept { header, count }
 }
 
@@ -321,10 +330,10 @@ fn heard(ren: u8, r: Remote) -> Remote
 fn asked(size: u32) -> u16
     ensures { λ r. ⌜ r ≡ min size 1024 ⌝ }
 {
-    if size < 1024 {
+    if size < MOST {
         return size as u16;
     }
-    1024
+    STORE
 }
 
 fn plain(state: State, number: u8) -> Plan
@@ -391,7 +400,7 @@ fn message_accepted(st: State, tag: u8, size: u32, end: u8, count: usize) -> Pla
         },
         number: DONE,
         tells: TELLS_NOTHING,
-        from: 12,
+        from: HEADER,
         count,
     }
 }
@@ -420,7 +429,7 @@ fn request_accepted(st: State, tag: u8, size: u32, enabled: u8, term: u8, count:
         sent: 0,
         enabled,
         term,
-        phase: 1,
+        phase: ASKED,
         tag,
         halted: b.halted,
         recent: tag,

@@ -4,20 +4,23 @@ use port::types::BulkOut;
 use port::types::Port;
 use port::types::Split;
 use port::types::State;
+use port::types::CLOSED;
+use port::types::FULL_SPEED;
+use port::types::HIGH_SPEED;
+use port::types::OWED;
+use port::types::STORE;
 ghost use mathlib.Core.Path.{_≡_};
 ghost use Rattle.port.specs.Parts.{isSize};
 ghost use Rattle.port.specs.Sound.{portSound, openSound, heldSound, restingSound, outSound, unasked, unsending, idle, askedSound, sendingSound, phaseSound, inSound, clearSound, notOwed, abortOutSound, splitSound, sound};
-
-const STORE: u16 = 1024;
 
 // A packet size of 64 or 512.
 pub fn is_size(p: u16) -> bool
     ensures { λ r. ⌜ r ≡ isSize p ⌝ }
 {
-    if p == 64 {
+    if p == FULL_SPEED {
         return true;
     }
-    if p == 512 {
+    if p == HIGH_SPEED {
         return true;
     }
     false
@@ -250,10 +253,10 @@ fn clear_sound(o: BulkOut, b: BulkIn) -> bool
     if b.recent != 0 {
         return false;
     }
-    if b.phase == 0 {
+    if b.phase == CLOSED {
         return true;
     }
-    if b.phase == 3 {
+    if b.phase == OWED {
         return true;
     }
     false
@@ -263,7 +266,7 @@ fn clear_sound(o: BulkOut, b: BulkIn) -> bool
 fn not_owed(b: BulkIn) -> bool
     ensures { λ r. ⌜ r ≡ notOwed b ⌝ }
 {
-    if b.phase == 3 {
+    if b.phase == OWED {
         return false;
     }
     true

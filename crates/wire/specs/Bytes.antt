@@ -34,6 +34,6 @@ allZero (suc n ∷ s) = false
 unfoldable pub zeros : List ℕ → ℕ → ℕ → Bool
 zeros s a e = allZero (slice a e s)
 
--- an answer's bytes in a lent buffer: "bytes past an answer's length stay as they were" (01)
+-- an answer's bytes in a lent buffer, whose bytes "past an answer's length stay as they were" (01)
 abbrev pub into : List ℕ → List ℕ → List ℕ
 into a b = a ++ drop (length a) b

@@ -110,7 +110,7 @@ readTrigger s = decide Fault (triggerRules s) (Good (Trigger (bTag s)))
 abbrev pub known : List ℕ → Bool
 known s = MsgID s =ᵇ DEV-DEP-MSG-OUT or MsgID s =ᵇ REQUEST-DEV-DEP-MSG-IN or MsgID s =ᵇ TRIGGER
 
--- "a header then goes 6, 7, 8, 9, 10": the tenth by MsgID
+-- "a header then goes 6, 7, 8, 9, 10": number 10 is told by MsgID
 abbrev pub readingRules : List ℕ → List (Bool × ℕ)
 readingRules s =
     length s % FOUR ≠ᵇ 0 ⇒ NOT-IN-FOURS ∣

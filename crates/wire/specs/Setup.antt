@@ -81,7 +81,7 @@ toInterface s =
      bRequest s =ᵇ 162 ⇒ exactly s (zero s) 0 1 (Asks LocalLockout) ∣ [])
     NoRow
 
--- "02 1, 02 3 CLEAR_, SET_FEATURE halt", "82 0 GET_STATUS", "00 9 SET_CONFIGURATION"
+-- "02 1, 02 3 CLEAR_, SET_FEATURE halt, by endpoint"
 unfoldable pub toFeature : List ℕ → Setup
 toFeature s =
     first
@@ -89,6 +89,7 @@ toFeature s =
      bRequest s =ᵇ 3 ⇒ byEndpoint s 0 SetFeature ∣ [])
     NoRow
 
+-- the request type first; "82 0 GET_STATUS" and "00 9 SET_CONFIGURATION" are alone of theirs
 unfoldable pub readSetup : List ℕ → Setup
 readSetup s =
     first

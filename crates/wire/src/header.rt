@@ -13,6 +13,9 @@ ghost use Prim.Native.Nat.{ℕ, _≤_};
 ghost use lib.ListN.{length};
 ghost use Rattle.wire.specs.Header.{readMessage, readRequest, readTrigger, readHeader, requestEnd};
 
+// Bytes of a header.
+pub const HEADER: usize = 12;
+
 // 1, DEV_DEP_MSG_OUT.
 fn read_message(s: &[u8]) -> Read
     requires { ⌜ 12 ≤ length (now s) ⌝ }
@@ -29,7 +32,7 @@ fn read_message(s: &[u8]) -> Read
     if 1 < end {
         return Read::Fault { number: RESERVED };
     }
-    if all_zero(s, 9, 12) {
+    if all_zero(s, 9, HEADER) {
         return Read::Good {
             header: Header::Message {
                 tag: s[1],
@@ -46,7 +49,7 @@ fn request_end(s: &[u8], size: u32, enabled: u8, term: u8) -> Read
     requires { ⌜ 12 ≤ length (now s) ⌝ }
     ensures { λ r. ⌜ r ≡ requestEnd (now (s .entry)) size enabled term ⌝ }
 {
-    if all_zero(s, 10, 12) {
+    if all_zero(s, 10, HEADER) {
         return Read::Good {
             header: Header::Request {
                 tag: s[1],
@@ -84,7 +87,7 @@ fn read_trigger(s: &[u8]) -> Read
     requires { ⌜ 12 ≤ length (now s) ⌝ }
     ensures { λ r. ⌜ r ≡ readTrigger (now (s .entry)) ⌝ }
 {
-    if all_zero(s, 3, 12) {
+    if all_zero(s, 3, HEADER) {
         return Read::Good {
             header: Header::Trigger { tag: s[1] },
         };
@@ -100,7 +103,7 @@ pub fn read_header(s: &[u8]) -> Read
     if n % 4 != 0 {
         return Read::Fault { number: NOT_IN_FOURS };
     }
-    if n < 12 {
+    if n < HEADER {
         return Read::Fault { number: SHORT_HEADER };
     }
     let tag = s[1];
