@@ -14,7 +14,7 @@ use Rattle.rules.specs.Choice.{_=ᵇ_, _≠ᵇ_, _<ᵇ_, no, _or_, _and_, pick,
 use Rattle.rules.specs.Answers.{DONE, UNSOUND, UNCONFIGURED, WRONG-SIZE, HALTED, WAIT, TELLS-NOTHING}
 use Rattle.rules.proofs.Choice.{NoneOf, pick-all, pick-both, decide-both, at-true, at-false, no-false, none-right}
 use Rattle.wire.specs.Header.{HEADER, OFF, ON, readHeader}
-use Rattle.wire.specs.Setup.{SETUP, readSetup}
+use Rattle.wire.specs.Setup.{SETUP, CONTROL, readSetup}
 use Rattle.wire.specs.declared.types.Endpoint.the-variants.{Out, In}
 use Rattle.wire.specs.declared.types.Header.{Header}
 use Rattle.wire.specs.declared.types.Header.the-variants.{Message, Request, Trigger}
@@ -31,7 +31,7 @@ use Rattle.port.specs.Out.{more, dataLength, headerRules, headerSays, ou
 use Rattle.port.specs.In.{Answer, Said, number, refuse, says, nothingToSend, fixed, header, started, toGo, gone, send, poll}
 use Rattle.port.specs.Rows.{abortRules, inTag, abortStatus, wrongSplit, initiateAbortOut, initiateAbortIn, checkAbortOut, checkAbortIn, clearing, initiateClear, checkClear, clearFeatureOut, clearFeatureIn, answerRow}
 use Rattle.port.specs.Device.{Device, Result, isSound, withState, heldOf, unsentOf, made}
-use Rattle.port.specs.Calls.{CONTROL, refused, done, said, carriedOut, bulkOut, bulkIn, answered, setup, released, take-message, offered, offer, thermostatRules, busRules, setStatus, panel, busReset, suspend}
+use Rattle.port.specs.Calls.{refused, done, said, carriedOut, bulkOut, bulkIn, answered, setup, released, take-message, offered, offer, thermostatRules, busRules, setStatus, panel, busReset, suspend}
 use Rattle.port.specs.Step.{Call, setup-packet, out-packet, in-poll, take-into, offer-reply, set-status, front-panel, bus-reset, bus-suspend, step}
 use Rattle.port.specs.Live.{Live, atFront, live, alive}
 use Rattle.port.specs.Laws.{Stored, LiveAgrees}

@@ -67,6 +67,7 @@ power-on-answers setting =
 -- ** the orders
 
 pub orders : Orders
+unfolding own
 orders st u s h n = record { packets = refl; headers = refl; continuing = refl; polls = refl; setups = refl; takes = refl; offers = refl; panels = refl; buses = refl; aborts = refl }
 
 -- ** an unsound unit

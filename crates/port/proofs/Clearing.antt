@@ -12,7 +12,7 @@ use borrow.Author.Tests.{eq-eqb, ne-eqb, eqb-true, le-ltb}
 use Rattle.rules.specs.Choice.{_=ᵇ_, _<ᵇ_, no, pick}
 use Rattle.rules.proofs.Choice.{decide-all, decide-none, at-true, at-false, pick-all, no-false, or-none, and-left, eq-neb}
 use Rattle.wire.specs.Header.{OFF}
-use Rattle.wire.specs.Setup.{SETUP, readSetup}
+use Rattle.wire.specs.Setup.{SETUP, CONTROL, readSetup}
 use Rattle.wire.specs.declared.types.Row.{Row}
 use Rattle.wire.specs.declared.types.Row.the-variants.{InitiateClear, CheckClearStatus}
 use Rattle.wire.specs.declared.types.Setup.the-variants.{Asks}
@@ -21,7 +21,7 @@ use Rattle.port.specs.In.{Said, refuse, says, inRules, fixed, started, g
 use Rattle.port.specs.Survivors.{Survivors, survivors}
 use Rattle.port.specs.Rows.{clearing, initiateClear, checkClear, answerRow}
 use Rattle.port.specs.Device.{Device, Result, isSound, withState, unsentOf}
-use Rattle.port.specs.Calls.{CONTROL, refused, said, setupRules, answered, setup, bulkIn}
+use Rattle.port.specs.Calls.{refused, said, setupRules, answered, setup, bulkIn}
 use Rattle.port.specs.Step.{setup-packet, in-poll, step}
 use Rattle.port.specs.Laws.{INITIATE-CLEAR, CHECK-CLEAR-STATUS, success, Reached, Ready, ClearReached, Survive}
 use Rattle.port.specs.declared.types.BulkIn.{BulkIn}

@@ -8,7 +8,7 @@ use lib.Seq.{paste}
 use Rattle.rules.specs.Choice.{_=ᵇ_, _≠ᵇ_, _<ᵇ_, no, _or_, pick, _⇒_∣_, decide}
 use Rattle.rules.specs.Answers.{DONE, UNSOUND, UNCONFIGURED, WRONG-SIZE, NO-ROW, NOT-NOW, TELLS-NOTHING}
 use Rattle.wire.specs.Header.{OFF}
-use Rattle.wire.specs.Setup.{SETUP, readSetup}
+use Rattle.wire.specs.Setup.{SETUP, CONTROL, readSetup}
 use Rattle.wire.specs.declared.types.Setup.{Setup}
 use Rattle.wire.specs.declared.types.Setup.the-variants.{Configure, Asks, NoRow}
 use Rattle.port.specs.Parts.{STORE, on, hasReply, isClear, outOf, inOf, isConfigured, withPort, withOut, withIn, withRemote, withStatus}
@@ -54,10 +54,6 @@ unfoldable pub bulkIn : Device → ℕ → Result
 bulkIn u room = said u (poll (u .state) (unsentOf u) room)
 
 -- ** setup packet: "Setup: 1, 3, 15"
-
--- "control buffer under 24"
-abbrev pub CONTROL : ℕ
-CONTROL = 24
 
 abbrev pub setupRules : Device → List ℕ → ℕ → List (Bool × ℕ)
 setupRules u s room =

@@ -6,23 +6,24 @@ use mathlib.Core.Bool.{true, false}
 use mathlib.Core.List.{List, [], _∷_, _++_}
 use mathlib.Core.Logic.{_⊎_}
 use lib.ListN.{length}
-use Rattle.rules.specs.Answers.{DONE, UNSOUND, WRONG-SIZE, SUCCESS, TELLS-NOTHING, Leaves, as-ruled, unchanged, out-halted, leaves}
+use Rattle.rules.specs.Answers.{DONE, UNSOUND, WRONG-SIZE, NOT-IN-FOURS, RESERVED, WRONG-LENGTH, MISALIGNED, NO-ROW, SUCCESS, FAILED, TRANSFER-NOT-IN-PROGRESS, SPLIT-IN-PROGRESS, TELLS-NOTHING, Leaves, as-ruled, unchanged, out-halted, leaves}
 use Rattle.rules.specs.Choice.{named}
 use Rattle.wire.specs.Header.{OFF, readingRules}
+use Rattle.wire.specs.Setup.{CONTROL}
 use Rattle.wire.specs.declared.types.Header.{Header}
-use Rattle.port.specs.Parts.{STORE, isSize, isOpenOut, unfinished, packetSize, outOf, inOf, isConfigured, isClear, haltedOut}
+use Rattle.port.specs.Parts.{STORE, FULL-SPEED, isSize, isOpenOut, unfinished, packetSize, outOf, inOf, isConfigured, isClear, haltedOut}
 use Rattle.port.specs.Out.{moreRules, headerRules, outRules}
 use Rattle.port.specs.In.{Answer, number, inRules}
 use Rattle.port.specs.Rows.{abortRules}
 use Rattle.port.specs.declared.types.Setting.{Setting}
 use Rattle.port.specs.declared.types.State.{State}
 use Rattle.port.specs.Device.{Device, Result, isSound, withState, made, powerOn}
-use Rattle.port.specs.Calls.{CONTROL, refused, setupRules, takeRules, offerRules, thermostatRules, busRules}
+use Rattle.port.specs.Calls.{refused, setupRules, takeRules, offerRules, thermostatRules, busRules}
 use Rattle.port.specs.Step.{Call, setup-packet, in-poll, Stepping, after}
 use Rattle.port.specs.Live.{live}
 use Rattle.port.specs.Survivors.{survivors}
 use Rattle.port.specs.Breaks.{isBreak}
-use Rattle.port.specs.Lists.{Kind, kindOf, own, ownList}
+use Rattle.port.specs.Lists.{bulk, faults, Kind, setup, taking, offering, panel, reset, kindOf, own, ownList}
 
 -- n is one of the list
 abbrev pub OneOf : ℕ → List ℕ → Type 0
@@ -43,7 +44,7 @@ PowerOnSound = (setting : Setting) → isSound (powerOn setting .unit) ≡ true
 abbrev pub PowerOnAnswers : Type 0
 PowerOnAnswers = (setting : Setting)
     → ((isSize (setting .packet) ≡ true) × (powerOn setting ≡ record { unit = made setting OFF; answer = number DONE }))
-    ⊎ ((isSize (setting .packet) ≡ false) × (powerOn setting ≡ record { unit = made (record { packet = 64 }) OFF; answer = number WRONG-SIZE }))
+    ⊎ ((isSize (setting .packet) ≡ false) × (powerOn setting ≡ record { unit = made (record { packet = FULL-SPEED }) OFF; answer = number WRONG-SIZE }))
 
 abbrev pub KeepsSound : Stepping → Type 0
 KeepsSound does = (u : Device) (c : Call) → isSound u ≡ true → isSound (does u c .unit) ≡ true
@@ -81,16 +82,16 @@ EachAnswered does = (k : Kind) (n : ℕ) → OneOf n (DONE ∷ own k) → Answer
 -- "The first that applies decides": the lists of rules have the paper's numbers in the paper's order. A header's 10 stands by MsgID behind
 -- its 9, and setup's 15 behind its list
 pub record InOrder (st : State) (u : Device) (s : List ℕ) (h : Header) (n : ℕ) : Type 0 where
-  pub packets : named (outRules st n) ≡ 1 ∷ 2 ∷ 3 ∷ 4 ∷ 5 ∷ []
-  pub headers : named (readingRules s) ++ (10 ∷ []) ++ named (headerRules st s h) ≡ 6 ∷ 7 ∷ 8 ∷ 9 ∷ 10 ∷ 13 ∷ 12 ∷ 11 ∷ 14 ∷ []
-  pub continuing : named (moreRules n n s) ≡ 6 ∷ 11 ∷ 14 ∷ []
-  pub polls : named (inRules st n) ≡ 1 ∷ 2 ∷ 3 ∷ 4 ∷ 5 ∷ []
-  pub setups : named (setupRules u s n) ++ (15 ∷ []) ≡ 1 ∷ 3 ∷ 15 ∷ []
-  pub takes : named (takeRules u n) ≡ 1 ∷ 2 ∷ 16 ∷ 3 ∷ []
-  pub offers : named (offerRules u s) ≡ 1 ∷ 2 ∷ 3 ∷ 16 ∷ []
-  pub panels : named (thermostatRules u) ≡ 1 ∷ 2 ∷ []
-  pub buses : named (busRules u) ≡ 1 ∷ []
-  pub aborts : named (abortRules (st .split) true n n) ≡ 0x83 ∷ 0x80 ∷ 0x81 ∷ []
+  pub packets : named (outRules st n) ≡ bulk []
+  pub headers : named (readingRules s) ++ (RESERVED ∷ []) ++ named (headerRules st s h) ≡ faults
+  pub continuing : named (moreRules n n s) ≡ NOT-IN-FOURS ∷ WRONG-LENGTH ∷ MISALIGNED ∷ []
+  pub polls : named (inRules st n) ≡ bulk []
+  pub setups : named (setupRules u s n) ++ (NO-ROW ∷ []) ≡ own setup
+  pub takes : named (takeRules u n) ≡ own taking
+  pub offers : named (offerRules u s) ≡ own offering
+  pub panels : named (thermostatRules u) ≡ own panel
+  pub buses : named (busRules u) ≡ own reset
+  pub aborts : named (abortRules (st .split) true n n) ≡ SPLIT-IN-PROGRESS ∷ FAILED ∷ TRANSFER-NOT-IN-PROGRESS ∷ []
 
 abbrev pub Orders : Type 0
 Orders = (st : State) (u : Device) (s : List ℕ) (h : Header) (n : ℕ) → InOrder st u s h n

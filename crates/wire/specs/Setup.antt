@@ -16,6 +16,10 @@ use Rattle.wire.specs.declared.types.Setup.the-variants.{Configure, Asks
 abbrev pub SETUP : ℕ
 SETUP = 8
 
+-- "control buffer under 24": the length of the longest answer, GET_CAPABILITIES's own
+abbrev pub CONTROL : ℕ
+CONTROL = 24
+
 -- "with Bulk-OUT at endpoint 0x01 and Bulk-IN at 0x82"
 abbrev pub BULK-OUT : ℕ
 BULK-OUT = 0x01
@@ -73,7 +77,7 @@ toInterface s =
     first
     (bRequest s =ᵇ 5 ⇒ exactly s (zero s) 0 1 (Asks InitiateClear) ∣
      bRequest s =ᵇ 6 ⇒ exactly s (zero s) 0 2 (Asks CheckClearStatus) ∣
-     bRequest s =ᵇ 7 ⇒ exactly s (zero s) 0 24 (Asks GetCapabilities) ∣
+     bRequest s =ᵇ 7 ⇒ exactly s (zero s) 0 CONTROL (Asks GetCapabilities) ∣
      bRequest s =ᵇ 64 ⇒ exactly s (zero s) 0 1 (Asks IndicatorPulse) ∣
      bRequest s =ᵇ 128 ⇒ exactly s (between 2 127 s) 0 3 (Asks (ReadStatusByte (wValue s))) ∣
      bRequest s =ᵇ 160 ⇒ exactly s (between 0 1 s) 0 1 (Asks (RenControl (wValue s))) ∣
