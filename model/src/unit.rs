@@ -138,7 +138,7 @@ pub enum Fault {
     LengthOffByOne,
     /// INITIATE_CLEAR leaves the most recent tags.
     TagKeptOverClear,
-    /// A halt of Bulk-OUT drops the open transfer, but not the unfinished message.
+    /// A halt of Bulk-OUT drops the open transfer, but not the unfinished message, nor does the end of the halt.
     HalfKeptAfterHalt,
 }
 

@@ -4,7 +4,7 @@ use Prim.Native.Nat.{ℕ}
 use Rattle.rules.specs.Choice.{no, _≠ᵇ_, _or_, _and_, pick}
 use Rattle.wire.specs.Bytes.{number4, bytes4, zeros}
 use Rattle.wire.specs.Header.{readMessage, readRequest, readTrigger, readHeader, inHeader}
-use Rattle.wire.specs.Setup.{toEndpoint, toInterface, toFeature, readSetup}
+use Rattle.wire.specs.Setup.{fitting, toEndpoint, toInterface, toFeature, toStatus, toDevice, readSetup}
 use Rattle.port.specs.Parts.{fresh, broken, shut}
 use Rattle.port.specs.Remote.{withRenOn, localNow}
 use Rattle.port.specs.Sound.{portSound, openSound, heldSound, restingSound, outSound, unasked, unsending, idle, askedSound, sendingSound, phaseSound, inSound, clearSound, notOwed, abortOutSound, splitSound, sound}
@@ -16,5 +16,5 @@ use Rattle.port.specs.Calls.{bulkOut, bulkIn, answered, setup, released,
 use Rattle.port.specs.Step.{step, run, after}
 
 unfoldable pub computed : ℕ
-unfolding no _≠ᵇ_ _or_ _and_ pick number4 bytes4 zeros readMessage readRequest readTrigger readHeader inHeader toEndpoint toInterface toFeature readSetup fresh broken shut withRenOn localNow portSound openSound heldSound restingSound outSound unasked unsending idle askedSound sendingSound phaseSound inSound clearSound notOwed abortOutSound splitSound sound more headerSays outcome absorbed accepted planned outPlan fixed header started toGo gone send poll initiateAbortOut initiateAbortIn checkAbortOut checkAbortIn clearing initiateClear checkClear clearFeatureOut clearFeatureIn answerRow zeroed made powerOn bulkOut bulkIn answered setup released take-message offered offer setStatus panel busReset suspend step run after
+unfolding no _≠ᵇ_ _or_ _and_ pick number4 bytes4 zeros readMessage readRequest readTrigger readHeader inHeader fitting toEndpoint toInterface toFeature toStatus toDevice readSetup fresh broken shut withRenOn localNow portSound openSound heldSound restingSound outSound unasked unsending idle askedSound sendingSound phaseSound inSound clearSound notOwed abortOutSound splitSound sound more headerSays outcome absorbed accepted planned outPlan fixed header started toGo gone send poll initiateAbortOut initiateAbortIn checkAbortOut checkAbortIn clearing initiateClear checkClear clearFeatureOut clearFeatureIn answerRow zeroed made powerOn bulkOut bulkIn answered setup released take-message offered offer setStatus panel busReset suspend step run after
 computed = 0

@@ -3,7 +3,7 @@
 use Prim.Native.Nat.{ℕ}
 use mathlib.Core.Bool.{Bool}
 use mathlib.Core.List.{List, [], _∷_}
-use Rattle.rules.specs.Choice.{_=ᵇ_, _≤ᵇ_, _and_, pick, _⇒_∣_, first}
+use Rattle.rules.specs.Choice.{_=ᵇ_, _≤ᵇ_, pick, _⇒_∣_, first, _&_, all}
 use Rattle.wire.specs.Bytes.{byte, number2}
 use Rattle.wire.specs.declared.types.Endpoint.{Endpoint}
 use Rattle.wire.specs.declared.types.Endpoint.the-variants.{Out, In}
@@ -42,64 +42,70 @@ wIndex s = number2 s 4
 abbrev pub wLength : List ℕ → ℕ
 wLength s = number2 s 6
 
--- what is asked, where wValue passes its test and wIndex and wLength are the ones given
-abbrev pub exactly : List ℕ → Bool → ℕ → ℕ → Setup → Setup
-exactly s value index size what = pick (value and wIndex s =ᵇ index and wLength s =ᵇ size) what NoRow
+-- a value from `low` to `high`, an index and a length that are the ones given: a row's columns
+unfoldable pub fitting : ℕ → ℕ → ℕ → ℕ → ℕ → ℕ → ℕ → Bool
+fitting value low high at index long size = all (low ≤ᵇ value & value ≤ᵇ high & at =ᵇ index & long =ᵇ size & [])
 
-abbrev pub zero : List ℕ → Bool
-zero s = wValue s =ᵇ 0
+abbrev pub matches : List ℕ → ℕ → ℕ → ℕ → ℕ → Bool
+matches s low high index size = fitting (wValue s) low high (wIndex s) index (wLength s) size
 
--- "wValue tag 1 to 255", "wValue tag 2 to 127", "wValue 0 or 1"
-abbrev pub between : ℕ → ℕ → List ℕ → Bool
-between low high s = low ≤ᵇ wValue s and wValue s ≤ᵇ high
+abbrev pub row : Bool → Setup → Setup
+row fits what = pick fits what NoRow
 
--- "by endpoint"
-abbrev pub byEndpoint : List ℕ → ℕ → (Endpoint → Row) → Setup
-byEndpoint s size row =
+-- "by endpoint": the row of Bulk-OUT, or of Bulk-IN
+abbrev pub ofEndpoint : List ℕ → ℕ → Row → Row → Setup
+ofEndpoint s size out inward =
     first
-    (wIndex s =ᵇ BULK-OUT ⇒ exactly s (zero s) BULK-OUT size (Asks (row Out)) ∣
-     wIndex s =ᵇ BULK-IN ⇒ exactly s (zero s) BULK-IN size (Asks (row In)) ∣ [])
+    (wIndex s =ᵇ BULK-OUT ⇒ row (matches s 0 0 BULK-OUT size) (Asks out) ∣
+     wIndex s =ᵇ BULK-IN ⇒ row (matches s 0 0 BULK-IN size) (Asks inward) ∣ [])
     NoRow
+
+abbrev pub byEndpoint : List ℕ → ℕ → (Endpoint → Row) → Setup
+byEndpoint s size asked = ofEndpoint s size (asked Out) (asked In)
 
 -- "Class requests to .. an endpoint A2"
 unfoldable pub toEndpoint : List ℕ → Setup
 toEndpoint s =
     first
-    (bRequest s =ᵇ 1 ⇒ exactly s (between 1 255 s) BULK-OUT 2 (Asks (InitiateAbortBulkOut (wValue s))) ∣
-     bRequest s =ᵇ 2 ⇒ exactly s (zero s) BULK-OUT 8 (Asks CheckAbortBulkOutStatus) ∣
-     bRequest s =ᵇ 3 ⇒ exactly s (between 1 255 s) BULK-IN 2 (Asks (InitiateAbortBulkIn (wValue s))) ∣
-     bRequest s =ᵇ 4 ⇒ exactly s (zero s) BULK-IN 8 (Asks CheckAbortBulkInStatus) ∣ [])
+    (bRequest s =ᵇ 1 ⇒ row (matches s 1 255 BULK-OUT 2) (Asks (InitiateAbortBulkOut (wValue s))) ∣
+     bRequest s =ᵇ 2 ⇒ row (matches s 0 0 BULK-OUT 8) (Asks CheckAbortBulkOutStatus) ∣
+     bRequest s =ᵇ 3 ⇒ row (matches s 1 255 BULK-IN 2) (Asks (InitiateAbortBulkIn (wValue s))) ∣
+     bRequest s =ᵇ 4 ⇒ row (matches s 0 0 BULK-IN 8) (Asks CheckAbortBulkInStatus) ∣ [])
     NoRow
 
 -- "Class requests to the interface are A1"
 unfoldable pub toInterface : List ℕ → Setup
 toInterface s =
     first
-    (bRequest s =ᵇ 5 ⇒ exactly s (zero s) 0 1 (Asks InitiateClear) ∣
-     bRequest s =ᵇ 6 ⇒ exactly s (zero s) 0 2 (Asks CheckClearStatus) ∣
-     bRequest s =ᵇ 7 ⇒ exactly s (zero s) 0 CONTROL (Asks GetCapabilities) ∣
-     bRequest s =ᵇ 64 ⇒ exactly s (zero s) 0 1 (Asks IndicatorPulse) ∣
-     bRequest s =ᵇ 128 ⇒ exactly s (between 2 127 s) 0 3 (Asks (ReadStatusByte (wValue s))) ∣
-     bRequest s =ᵇ 160 ⇒ exactly s (between 0 1 s) 0 1 (Asks (RenControl (wValue s))) ∣
-     bRequest s =ᵇ 161 ⇒ exactly s (zero s) 0 1 (Asks GoToLocal) ∣
-     bRequest s =ᵇ 162 ⇒ exactly s (zero s) 0 1 (Asks LocalLockout) ∣ [])
+    (bRequest s =ᵇ 5 ⇒ row (matches s 0 0 0 1) (Asks InitiateClear) ∣
+     bRequest s =ᵇ 6 ⇒ row (matches s 0 0 0 2) (Asks CheckClearStatus) ∣
+     bRequest s =ᵇ 7 ⇒ row (matches s 0 0 0 CONTROL) (Asks GetCapabilities) ∣
+     bRequest s =ᵇ 64 ⇒ row (matches s 0 0 0 1) (Asks IndicatorPulse) ∣
+     bRequest s =ᵇ 128 ⇒ row (matches s 2 127 0 3) (Asks (ReadStatusByte (wValue s))) ∣
+     bRequest s =ᵇ 160 ⇒ row (matches s 0 1 0 1) (Asks (RenControl (wValue s))) ∣
+     bRequest s =ᵇ 161 ⇒ row (matches s 0 0 0 1) (Asks GoToLocal) ∣
+     bRequest s =ᵇ 162 ⇒ row (matches s 0 0 0 1) (Asks LocalLockout) ∣ [])
     NoRow
 
 -- "02 1, 02 3 CLEAR_, SET_FEATURE halt, by endpoint"
 unfoldable pub toFeature : List ℕ → Setup
-toFeature s =
-    first
-    (bRequest s =ᵇ 1 ⇒ byEndpoint s 0 ClearFeature ∣
-     bRequest s =ᵇ 3 ⇒ byEndpoint s 0 SetFeature ∣ [])
-    NoRow
+toFeature s = first (bRequest s =ᵇ 1 ⇒ byEndpoint s 0 ClearFeature ∣ bRequest s =ᵇ 3 ⇒ byEndpoint s 0 SetFeature ∣ []) NoRow
 
--- the request type first; "82 0 GET_STATUS" and "00 9 SET_CONFIGURATION" are alone of theirs
+-- "82 0 GET_STATUS, by endpoint"
+unfoldable pub toStatus : List ℕ → Setup
+toStatus s = first (bRequest s =ᵇ 0 ⇒ byEndpoint s 2 GetStatus ∣ []) NoRow
+
+-- "00 9 SET_CONFIGURATION; wValue 0 or 1"
+unfoldable pub toDevice : List ℕ → Setup
+toDevice s = first (bRequest s =ᵇ 9 ⇒ row (matches s 0 1 0 0) (Configure (wValue s)) ∣ []) NoRow
+
+-- the request type first, then bRequest
 unfoldable pub readSetup : List ℕ → Setup
 readSetup s =
     first
     (bmRequestType s =ᵇ 0xA2 ⇒ toEndpoint s ∣
      bmRequestType s =ᵇ 0xA1 ⇒ toInterface s ∣
      bmRequestType s =ᵇ 0x02 ⇒ toFeature s ∣
-     bmRequestType s =ᵇ 0x82 and bRequest s =ᵇ 0 ⇒ byEndpoint s 2 GetStatus ∣
-     bmRequestType s =ᵇ 0x00 and bRequest s =ᵇ 9 ⇒ exactly s (between 0 1 s) 0 0 (Configure (wValue s)) ∣ [])
+     bmRequestType s =ᵇ 0x82 ⇒ toStatus s ∣
+     bmRequestType s =ᵇ 0x00 ⇒ toDevice s ∣ [])
     NoRow
