@@ -24,7 +24,7 @@ use Rattle.wire.specs.declared.types.Row.{Row}
 use Rattle.wire.specs.declared.types.Row.the-variants.{InitiateAbortBulkOut, CheckAbortBulkOutStatus, InitiateAbortBulkIn, CheckAbortBulkInStatus, InitiateClear, CheckClearStatus, GetCapabilities, IndicatorPulse, ReadStatusByte, RenControl, GoToLocal, LocalLockout, ClearFeature, SetFeature, GetStatus}
 use Rattle.wire.specs.declared.types.Setup.{Setup}
 use Rattle.wire.specs.declared.types.Setup.the-variants.{Configure, Asks, NoRow}
-use Rattle.port.specs.Parts.{STORE, CLOSED, ASKED, OWED, on, isOpenOut, isOpenIn, isOwed, hasReply, isAbortOut, isClear, packetSize, outOf, inOf, isConfigured, withPort, withOut, withIn, withSplit, withRemote, withRen, withStatus, withInHalted, emptyOut, emptyIn, broken, haltedOut, shut}
+use Rattle.port.specs.Parts.{STORE, CLOSED, ASKED, OWED, on, isOpenOut, isOpenIn, isOwed, hasReply, keepsHalt, isClear, packetSize, outOf, inOf, isConfigured, withPort, withOut, withIn, withSplit, withRemote, withRen, withStatus, withInHalted, emptyOut, emptyIn, broken, haltedOut, shut}
 use Rattle.port.specs.Sound.{sound}
 use Rattle.port.specs.Remote.{toLocal, lockedOut, withRenOn, byPanel, localNow}
 use Rattle.port.specs.Out.{more, dataLength, headerRules, headerSays, outcome, absorbed, opened, accepted, planned, outPlan}
@@ -141,7 +141,7 @@ module _ (u : Device) (stored : Stored u) (h : Sound (u .state)) where
   feature-out-agrees : live (withState u (clearFeatureOut (u .state))) ≡ live (withState w (clearFeatureOut (w .state)))
   unfolding clearFeatureOut alive live
   feature-out-agrees =
-      let halted = pick (isClear (u .state .split) or isAbortOut (u .state .split)) (outOf (u .state) .halted) OFF in
+      let halted = pick (keepsHalt (u .state .split)) (outOf (u .state) .halted) OFF in
       agree u stored h (withOut (u .state) (broken halted (outOf (u .state)))) (withOut (w .state) (broken halted (outOf (w .state)))) refl (broken-message halted) (all-reply u stored h)
 
   -- the Bulk-IN side changed

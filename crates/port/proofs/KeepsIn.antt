@@ -14,7 +14,7 @@ use Rattle.wire.specs.Header.{OFF, ON}
 use Rattle.wire.specs.declared.types.Endpoint.the-variants.{Out, In}
 use Rattle.wire.specs.declared.types.Row.{Row}
 use Rattle.wire.specs.declared.types.Row.the-variants.{InitiateAbortBulkOut, CheckAbortBulkOutStatus, InitiateAbortBulkIn, CheckAbortBulkInStatus, InitiateClear, CheckClearStatus, GetCapabilities, IndicatorPulse, ReadStatusByte, RenControl, GoToLocal, LocalLockout, ClearFeature, SetFeature, GetStatus}
-use Rattle.port.specs.Parts.{STORE, CLOSED, ASKED, SENDING, OWED, on, isOpenOut, isOpenIn, isOwed, hasReply, isNone, isAbortOut, isClear, packetSize, outOf, inOf, withPort, withOut, withIn, withSplit, withRemote, withRen, withStatus, withInHalted, emptyOut, emptyIn, broken, haltedOut, shut}
+use Rattle.port.specs.Parts.{STORE, CLOSED, ASKED, SENDING, OWED, on, isOpenOut, isOpenIn, isOwed, hasReply, isNone, keepsHalt, isClear, packetSize, outOf, inOf, withPort, withOut, withIn, withSplit, withRemote, withRen, withStatus, withInHalted, emptyOut, emptyIn, broken, haltedOut, shut}
 use Rattle.port.specs.Remote.{localNow}
 use Rattle.rules.specs.Answers.{SUCCESS}
 use Rattle.port.specs.In.{Said, says, sendable, fixed, header, started, toGo, gone, send, nothingToSend}
@@ -221,17 +221,17 @@ module _ (st : State) (h : Sound st) where
   feature-out-sound : Sound (clearFeatureOut st)
   unfolding clearFeatureOut
   feature-out-sound =
-      pick-all (λ (n : ℕ). Sound (withOut st (broken n (outOf st)))) (isClear (st .split) or isAbortOut (st .split)) _ _
-      (λ _. broken-sound st h (outOf st .halted) out-halted (λ e. clear-in (st .split) _ _ (h .split) e .halted) (abort-halted (st .split) (h .split)))
-      (λ e. broken-sound st h OFF (omega arith) (λ c. absurd (true≢false (sym c ∙ none-left _ _ e))) (λ c. absurd (true≢false (sym c ∙ none-right (isClear (st .split)) _ e))))
+      pick-all (λ (n : ℕ). Sound (withOut st (broken n (outOf st)))) (keepsHalt (st .split)) _ _
+      (λ _. broken-sound st h (outOf st .halted) out-halted (kept-halted (st .split) (h .split)))
+      (λ e. broken-sound st h OFF (omega arith) (λ c. absurd (true≢false (sym c ∙ e))))
     where
       out-halted : outOf st .halted ≤ 1
       out-halted = ⊎-elim (λ w. let z = w .1 .running in omega arith) (λ w. w .1 .halted) (h .out)
-      abort-halted : (s : Split) → SplitSound s (outOf st) (inOf st) → isAbortOut s ≡ true → outOf st .halted ≡ 1
-      abort-halted None k e = absurd (false≢true e)
-      abort-halted (AbortOut count) k e = k .1
-      abort-halted (AbortIn count) k e = absurd (false≢true e)
-      abort-halted Clear k e = absurd (false≢true e)
+      kept-halted : (s : Split) → SplitSound s (outOf st) (inOf st) → keepsHalt s ≡ true → outOf st .halted ≡ 1
+      kept-halted None k e = absurd (false≢true e)
+      kept-halted (AbortOut count) k e = k .1
+      kept-halted (AbortIn count) k e = absurd (false≢true e)
+      kept-halted Clear k e = k .halted
 
   -- the halt of Bulk-IN is its own
   halt-in : (b : BulkIn) (halted : ℕ) → halted ≤ 1 → InSound b → InSound (withInHalted b halted)

@@ -15,7 +15,7 @@ use Rattle.wire.specs.declared.types.Header.{Header}
 use Rattle.wire.specs.declared.types.Header.the-variants.{Message, Request, Trigger}
 use Rattle.wire.specs.declared.types.Read.the-variants.{Good}
 use Rattle.wire.proofs.Lawful.{Reads, Lawful}
-use Rattle.port.specs.Parts.{STORE, FULL-SPEED, HIGH-SPEED, isSize, CLOSED, ASKED, SENDING, OWED, on, isOpenOut, isOpenIn, isOwed, hasReply, isNone, isAbortOut, isClear, unfinished, packetSize, outOf, inOf, withPort, withOut, withIn, withSplit, withRemote, withInHalted, emptyOut, emptyIn, fresh, broken, haltedOut, shut}
+use Rattle.port.specs.Parts.{STORE, FULL-SPEED, HIGH-SPEED, isSize, CLOSED, ASKED, SENDING, OWED, on, isOpenOut, isOpenIn, isOwed, hasReply, isNone, keepsHalt, isClear, unfinished, packetSize, outOf, inOf, withPort, withOut, withIn, withSplit, withRemote, withInHalted, emptyOut, emptyIn, fresh, broken, haltedOut, shut}
 use Rattle.port.specs.Sound.{sound}
 use Rattle.port.specs.Out.{wrongLength, moreRules, outOfTurn, dataLength, headerRules, absorbed, opened, tagged, requested, accepted, planned}
 use Rattle.port.specs.declared.types.Port.{Port}
@@ -63,9 +63,9 @@ module _ (st : State) (h : Sound st) where
   out-whole : outOf st .ready ≡ 1 → outOf st .held ≡ 0 → ⊥
   out-whole r = ⊎-elim (λ w. let z = w .1 .unready in absurd (omega arith)) (λ w. w .1 .whole r) (h .out)
 
-  pub broken-sound : (halted : ℕ) → halted ≤ 1 → (isClear (st .split) ≡ true → halted ≡ 1) → (isAbortOut (st .split) ≡ true → halted ≡ 1) → Sound (withOut st (broken halted (outOf st)))
+  pub broken-sound : (halted : ℕ) → halted ≤ 1 → (keepsHalt (st .split) ≡ true → halted ≡ 1) → Sound (withOut st (broken halted (outOf st)))
   unfolding broken
-  broken-sound halted bound cl ab = record {
+  broken-sound halted bound keeps = record {
     port = h .port;
     out = inr (refl, record {
       halted = bound;
@@ -77,15 +77,15 @@ module _ (st : State) (h : Sound st) where
       dropped = λ _ r. at-false (on (outOf st .ready)) _ _ (ne-eqb _ _ r);
     });
     inward = h .inward;
-    split = split (st .split) (h .split) cl ab;
+    split = split (st .split) (h .split) keeps;
   }
     where
-      split : (s : Split) → SplitSound s (outOf st) (inOf st) → (isClear s ≡ true → halted ≡ 1) → (isAbortOut s ≡ true → halted ≡ 1) → SplitSound s (broken halted (outOf st)) (inOf st)
-      split None k c a = k
-      split (AbortOut count) k c a = (k .0, a refl, k .2)
-      split (AbortIn count) k c a = k
-      split Clear k c a = record {
-        halted = c refl;
+      split : (s : Split) → SplitSound s (outOf st) (inOf st) → (keepsHalt s ≡ true → halted ≡ 1) → SplitSound s (broken halted (outOf st)) (inOf st)
+      split None k e = k
+      split (AbortOut count) k e = (k .0, e refl, k .2)
+      split (AbortIn count) k e = k
+      split Clear k e = record {
+        halted = e refl;
         held = pick-all (λ (n : ℕ). n ≡ 0) (on (outOf st .ready)) _ _ (λ _. k .held) (λ _. refl);
         out-tag = k .out-tag;
         unsent = k .unsent;
@@ -94,7 +94,7 @@ module _ (st : State) (h : Sound st) where
       }
 
   pub halted-sound : Sound (haltedOut st)
-  halted-sound = broken-sound ON (omega arith) (λ _. refl) (λ _. refl)
+  halted-sound = broken-sound ON (omega arith) (λ _. refl)
 
 -- ** data and headers on Bulk-OUT
 

@@ -73,11 +73,12 @@ isNone (AbortOut n) = false
 isNone (AbortIn n) = false
 isNone Clear = false
 
-abbrev pub isAbortOut : Split → Bool
-isAbortOut None = false
-isAbortOut (AbortOut n) = true
-isAbortOut (AbortIn n) = false
-isAbortOut Clear = false
+-- a clear or an abort of Bulk-OUT
+abbrev pub keepsHalt : Split → Bool
+keepsHalt None = false
+keepsHalt (AbortOut n) = true
+keepsHalt (AbortIn n) = false
+keepsHalt Clear = true
 
 abbrev pub isClear : Split → Bool
 isClear None = false

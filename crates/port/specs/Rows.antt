@@ -11,7 +11,7 @@ use Rattle.wire.specs.declared.types.Endpoint.{Endpoint}
 use Rattle.wire.specs.declared.types.Endpoint.the-variants.{Out, In}
 use Rattle.wire.specs.declared.types.Row.{Row}
 use Rattle.wire.specs.declared.types.Row.the-variants.{InitiateAbortBulkOut, CheckAbortBulkOutStatus, InitiateAbortBulkIn, CheckAbortBulkInStatus, InitiateClear, CheckClearStatus, GetCapabilities, IndicatorPulse, ReadStatusByte, RenControl, GoToLocal, LocalLockout, ClearFeature, SetFeature, GetStatus}
-use Rattle.port.specs.Parts.{CLOSED, OWED, on, isOpenOut, isOpenIn, isOwed, isNone, isAbortOut, isClear, outOf, inOf, withPort, withOut, withIn, withSplit, withRemote, withRen, withInHalted, emptyOut, emptyIn, broken, haltedOut, shut}
+use Rattle.port.specs.Parts.{CLOSED, OWED, on, isOpenOut, isOpenIn, isOwed, isNone, keepsHalt, isClear, outOf, inOf, withPort, withOut, withIn, withSplit, withRemote, withRen, withInHalted, emptyOut, emptyIn, broken, haltedOut, shut}
 use Rattle.port.specs.Remote.{toLocal, lockedOut, withRenOn, localNow}
 use Rattle.port.specs.In.{Said, says}
 use Rattle.port.specs.declared.types.BulkIn.{BulkIn}
@@ -63,11 +63,14 @@ checkAbortOut st (AbortIn count) = wrongSplit st
 checkAbortOut st Clear = wrongSplit st
 
 -- "CHECK of abort-IN or clear is 02 with D0 = 1 while that packet is owed"
+abbrev pub abortInStatus : State → ℕ → Said
+abortInStatus st count =
+    pick (isOwed (inOf st)) (says st (abortStatus PENDING D0 0)) (says (withSplit st None) (abortStatus SUCCESS 0 count))
+
 unfoldable pub checkAbortIn : State → Split → Said
 checkAbortIn st None = wrongSplit st
 checkAbortIn st (AbortOut count) = wrongSplit st
-checkAbortIn st (AbortIn count) =
-    pick (isOwed (inOf st)) (says st (abortStatus PENDING D0 0)) (says (withSplit st None) (abortStatus SUCCESS 0 count))
+checkAbortIn st (AbortIn count) = abortInStatus st count
 checkAbortIn st Clear = wrongSplit st
 
 -- ** clear
@@ -96,7 +99,7 @@ checkClear st =
 -- "ends the halt and drops what is unfinished; during a clear or abort-OUT split it is answered and the halt stays"
 unfoldable pub clearFeatureOut : State → State
 clearFeatureOut st =
-    withOut st (broken (pick (isClear (st .split) or isAbortOut (st .split)) (outOf st .halted) OFF) (outOf st))
+    withOut st (broken (pick (keepsHalt (st .split)) (outOf st .halted) OFF) (outOf st))
 
 -- "ends the halt and any owed packet; an open transfer closes, and the stored reply goes with it unless a packet was owed"
 unfoldable pub clearFeatureIn : BulkIn → BulkIn
@@ -105,6 +108,10 @@ clearFeatureIn b =
     (pick (isOpenIn b) (emptyIn CLOSED 0 OFF (b .recent)) (withInHalted b OFF))
 
 -- ** the rows, in the order of the table
+
+-- "REN off .. LOCS and REN off"; 1 puts REN on and moves nothing
+abbrev pub renControl : State → ℕ → State
+renControl st ren = pick (on ren) (withPort st (withRen (st .small .port) ON)) (localNow st)
 
 -- "status byte with bit 6 cleared"
 abbrev pub shown : ℕ → ℕ
@@ -125,8 +132,7 @@ answerRow st CheckClearStatus = checkClear st
 answerRow st GetCapabilities = says st capabilities
 answerRow st IndicatorPulse = record { state = st; answer = record { number = DONE; bytes = SUCCESS ∷ []; tells = TELLS-PULSE } }
 answerRow st (ReadStatusByte tag) = says st (SUCCESS ∷ tag ∷ shown (st .small .port .status) ∷ [])
-answerRow st (RenControl ren) =
-    says (pick (on ren) (withPort st (withRen (st .small .port) ON)) (localNow st)) (SUCCESS ∷ [])
+answerRow st (RenControl ren) = says (renControl st ren) (SUCCESS ∷ [])
 answerRow st GoToLocal = says (withRemote st (toLocal (st .remote))) (SUCCESS ∷ [])
 answerRow st LocalLockout = says (withRemote st (withRenOn lockedOut (st .small .port .ren) (st .remote))) (SUCCESS ∷ [])
 answerRow st (ClearFeature Out) = says (clearFeatureOut st) []

@@ -1,4 +1,6 @@
 // A Bulk-OUT packet: what it comes to, decided over the state, and what that leaves.
+use crate::parts::broken;
+use crate::parts::with_out;
 use crate::sound::sound;
 use port::types::BulkIn;
 use port::types::BulkOut;
@@ -34,7 +36,7 @@ ghost use lib.ListN.{length};
 ghost use lib.Dec.{ltb};
 ghost use Rattle.rules.specs.Choice.{first};
 ghost use Rattle.wire.specs.Header.{readHeader, headerNumber};
-ghost use Rattle.port.specs.Parts.{unfinished, broken, withOut};
+ghost use Rattle.port.specs.Parts.{unfinished};
 ghost use Rattle.port.specs.Remote.{headed, withRenOn};
 ghost use Rattle.port.specs.Out.{alignment, fitRules, more, requestOutOfTurn, outOfTurn, dataLength, headerRules, headerSays, outRules, outcome, absorbed, opened, tagged, requested, CanAbsorb, CanAccept, Can, Room, plain, accepted, planned, outPlan};
 
@@ -291,26 +293,6 @@ fn absorbed(o: BulkOut, count: usize) -> BulkOut
     }
 }
 
-// A halt of Bulk-OUT drops what is open and unfinished.
-fn broken(halted: u8, o: BulkOut) -> BulkOut
-    ensures { λ r. ⌜ r ≡ broken halted o ⌝ }
-{
-    let mut next = BulkOut {
-        held: 0,
-        left: 0,
-        got: 0,
-        end: 0,
-        ready: o.ready,
-        halted,
-        recent: o.recent,
-    };
-    if o.ready == 1 {
-        next.held = o.held;
-        return next;
-    }
-    next
-}
-
 // A DEV_DEP_MSG_OUT header moves the remote/local state while REN is on.
 fn heard(ren: u8, r: Remote) -> Remote
     ensures { λ x. ⌜ x ≡ withRenOn headed ren r ⌝ }
@@ -345,25 +327,6 @@ fn plain(state: State, number: u8) -> Plan
         tells: TELLS_NOTHING,
         from: 0,
         count: 0,
-    }
-}
-
-// The state with another Bulk-OUT side.
-fn with_out(st: State, o: BulkOut) -> State
-    ensures { λ r. ⌜ r ≡ withOut st o ⌝ }
-{
-    let port = st.small.port;
-    let bulkin = st.small.bulkin;
-    let split = st.split;
-    let remote = st.remote;
-    State {
-        small: Small {
-            port,
-            bulkout: o,
-            bulkin,
-        },
-        split,
-        remote,
     }
 }
 

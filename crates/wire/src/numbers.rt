@@ -1,8 +1,8 @@
-// Numbers of four bytes, least significant first, and runs of zero bytes.
+// Numbers of two and four bytes, least significant first, and runs of zero bytes.
 ghost use mathlib.Core.Path.{_≡_};
 ghost use Prim.Native.Nat.{ℕ, _+_, _<_, _≤_};
 ghost use lib.ListN.{length};
-ghost use Rattle.wire.specs.Bytes.{number2, number4, zeros};
+ghost use Rattle.wire.specs.Bytes.{number2, number4, bytes4, zeros};
 
 fn wide(x: u8) -> u32
     ensures { λ r. ⌜ (r ≡ x) × (r < 256) ⌝ }
@@ -43,4 +43,17 @@ pub fn all_zero(s: &[u8], a: usize, e: usize) -> bool
         i += 1;
     }
     true
+}
+
+// The four bytes of a number.
+pub fn bytes_of(n: u32) -> [u8; 4]
+    ensures { λ r. ⌜ r ≡ bytes4 n ⌝ }
+{
+    let high = n / 65536;
+    [
+        (n % 256) as u8,
+        (n / 256 % 256) as u8,
+        (high % 256) as u8,
+        (high / 256 % 256) as u8,
+    ]
 }

@@ -6,7 +6,7 @@ use Rattle.steps.proofs.out.data.Tie as tie
 use Rattle.steps.proofs.out.data.Reads as reads
 use Rattle.steps.proofs.out.data.Lts as lts
 use Rattle.steps.proofs.out.absorbed.Reads as absorbed-reads
-use Rattle.steps.proofs.out.with_out.Reads as with-out-reads
+use Rattle.steps.proofs.parts.with_out.Reads as with-out-reads
 
 -- src/out.rt:488:30
 absorbed-requires : tie.Need-absorbed-requires

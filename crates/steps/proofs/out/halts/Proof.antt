@@ -5,9 +5,9 @@ use Rattle.steps.proofs.out.halts.Statement.{statement}
 use Rattle.steps.proofs.out.halts.Tie as tie
 use Rattle.steps.proofs.out.halts.Reads as reads
 use Rattle.steps.proofs.out.halts.Lts as lts
-use Rattle.steps.proofs.out.broken.Reads as broken-reads
+use Rattle.steps.proofs.parts.broken.Reads as broken-reads
 use Rattle.steps.proofs.out.plain.Reads as plain-reads
-use Rattle.steps.proofs.out.with_out.Reads as with-out-reads
+use Rattle.steps.proofs.parts.with_out.Reads as with-out-reads
 
 -- src/out.rt:480:24
 broken-requires : tie.Need-broken-requires

@@ -6,7 +6,7 @@ use Rattle.steps.proofs.out.trigger_accepted.Tie as tie
 use Rattle.steps.proofs.out.trigger_accepted.Reads as reads
 use Rattle.steps.proofs.out.trigger_accepted.Lts as lts
 use Rattle.steps.proofs.out.tagged.Reads as tagged-reads
-use Rattle.steps.proofs.out.with_out.Reads as with-out-reads
+use Rattle.steps.proofs.parts.with_out.Reads as with-out-reads
 
 -- src/out.rt:450:30
 tagged-requires : tie.Need-tagged-requires

@@ -1,0 +1,17 @@
+use mathlib.Core.Path.{sym}
+use Rattle.rules.proofs.Choice.{eq-neb, ne-neb}
+use Rattle.steps.proofs.parts.is_open_in.Statement.{statement}
+use Rattle.steps.proofs.parts.is_open_in.Tie as tie
+use Rattle.steps.proofs.parts.is_open_in.Reads as reads
+use Rattle.steps.proofs.parts.is_open_in.Lts as lts
+
+-- src/parts.rt:185:9
+returns : tie.Need-returns
+returns c = sym (eq-neb _ _ (c .if1 .taken))
+
+-- src/parts.rt:181:1
+returns-2 : tie.Need-returns-2
+returns-2 c = sym (ne-neb _ _ (c .if1 .left))
+
+pub is-open-in-spec : {M : Type 1} → statement M
+is-open-in-spec = tie.close (tie.spec returns returns-2)

@@ -1,0 +1,48 @@
+use Rattle.steps.proofs.RowLaws.{clear-busy, clear-begins}
+use mathlib.Core.Path.{_≡_, refl, sym, ap, _∙_}
+use Rattle.rules.proofs.Choice.{picks, tests}
+use Rattle.steps.specs.Control.{controlOf}
+use Rattle.port.specs.Rows.{initiateClear}
+use borrow.Author.Needs.{needs}
+use Rattle.steps.proofs.rows.initiate_clear.Statement.{statement}
+use Rattle.steps.proofs.rows.initiate_clear.Tie as tie
+use Rattle.steps.proofs.rows.initiate_clear.Reads as reads
+use Rattle.steps.proofs.rows.initiate_clear.Lts as lts
+use Rattle.steps.proofs.rows.clearing.Reads as clearing-reads
+use Rattle.steps.proofs.rows.is_clear.Reads as is-clear-reads
+use Rattle.steps.proofs.rows.says_1.Reads as says-1-reads
+
+-- src/rows.rt:265:8
+is-clear-requires : tie.Need-is-clear-requires
+is-clear-requires c κs = search needs
+
+-- src/rows.rt:266:9
+says-1-requires : tie.Need-says-1-requires
+says-1-requires c κs = search needs
+
+-- src/rows.rt:266:9
+returns : tie.Need-returns
+returns c = c .says-1 .ensures ∙ ap controlOf (clear-busy _ (sym (c .before .before .is-clear .ensures) ∙ c .before .if1 .taken))
+
+-- src/rows.rt:268:12
+clearing-requires : tie.Need-clearing-requires
+clearing-requires c κs = search needs
+
+-- src/rows.rt:268:5
+says-1-requires-2 : tie.Need-says-1-requires-2
+says-1-requires-2 c κs = search needs
+
+-- src/rows.rt:261:1
+returns-2 : tie.Need-returns-2
+returns-2 c = c .says-12 .ensures ∙ rw (c .before .clearing .ensures) (ap controlOf (clear-begins _ (sym (c .before .before .before .is-clear .ensures) ∙ c .before .before .if1 .left)))
+
+pub initiate-clear-spec : {M : Type 1} → statement M
+initiate-clear-spec =
+    tie.close
+    (tie.spec
+    is-clear-requires
+    says-1-requires
+    returns
+    clearing-requires
+    says-1-requires-2
+    returns-2)
