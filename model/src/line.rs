@@ -132,7 +132,8 @@ fn decimal(what: &str, word: &[u8], most: u64) -> Result<usize, String> {
     if !word.iter().all(u8::is_ascii_digit) {
         return Err(format!("{} is no number: {what} is decimal digits", shown(word)));
     }
-    let number = word.iter().fold(0u64, |number, digit| number.saturating_mul(10).saturating_add(u64::from(digit - b'0')));
+    let number =
+        word.iter().fold(0u64, |number, digit| number.saturating_mul(10).saturating_add(u64::from(digit - b'0')));
     if number > most {
         return Err(format!("{} is too large: {what} is at most {most}", shown(word)));
     }
@@ -365,11 +366,43 @@ mod tests {
     #[test]
     fn lines_that_cannot_be_read_change_nothing() {
         for line in [
-            "powers 64", "power", "power 64 1", "power 65536", "power 99999999999999999999999", "power -", "power 0x40",
-            "power -1", "setup", "setup 00 24 1", "setup 00 2049", "setup 0", "out", "out 123", "out 0g", "out 00 00",
-            "in -", "in 2049", "in 64 64", "take 2049", "take x", "offer", "offer 4", "offer 41 42", "status", "status 4",
-            "status 414", "status -", "status 4142", "status 4g", "local 1", "reset now", "suspend 0", "state 1", "out --",
-            "POWER 64", "64",
+            "powers 64",
+            "power",
+            "power 64 1",
+            "power 65536",
+            "power 99999999999999999999999",
+            "power -",
+            "power 0x40",
+            "power -1",
+            "setup",
+            "setup 00 24 1",
+            "setup 00 2049",
+            "setup 0",
+            "out",
+            "out 123",
+            "out 0g",
+            "out 00 00",
+            "in -",
+            "in 2049",
+            "in 64 64",
+            "take 2049",
+            "take x",
+            "offer",
+            "offer 4",
+            "offer 41 42",
+            "status",
+            "status 4",
+            "status 414",
+            "status -",
+            "status 4142",
+            "status 4g",
+            "local 1",
+            "reset now",
+            "suspend 0",
+            "state 1",
+            "out --",
+            "POWER 64",
+            "64",
         ] {
             let mut player = Player::new(None);
             player.answer(b"setup 0009010000000000");
@@ -404,8 +437,21 @@ mod tests {
     #[test]
     fn a_call_and_its_line_agree() {
         for line in [
-            "power 64", "setup 0009010000000000", "setup - 23", "out -", "out 0102", "in", "in 64", "take", "take 3",
-            "offer 41", "status 0f", "local", "reset", "suspend", "state",
+            "power 64",
+            "setup 0009010000000000",
+            "setup - 23",
+            "out -",
+            "out 0102",
+            "in",
+            "in 64",
+            "take",
+            "take 3",
+            "offer 41",
+            "status 0f",
+            "local",
+            "reset",
+            "suspend",
+            "state",
         ] {
             assert_eq!(Call::read(line.as_bytes()).unwrap().unwrap().line(), line);
         }

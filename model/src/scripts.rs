@@ -18,7 +18,9 @@ pub fn play(name: &str, text: &str) -> Played {
         let got = match Call::read(line.as_bytes()) {
             Ok(None) => {
                 if expected.is_some() {
-                    played.differences.push(format!("{place}: an answer is expected, but there is no call: write one before it"));
+                    played
+                        .differences
+                        .push(format!("{place}: an answer is expected, but there is no call: write one before it"));
                 }
                 continue;
             }

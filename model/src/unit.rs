@@ -1,7 +1,7 @@
 //! The unit of document 01: power-on and the nine calls.
 //!
 //! Written from the paper and the readings of it, and from nothing else. Words in quotation marks are the paper's.
-//! No call makes a unit unsound, so nothing here answers 1.
+//! No call makes a unit unsound, so nothing here answers 1; `sound` is there to try that.
 
 /// "a message store of 1,024 bytes .. and a reply store of the same size"
 pub const STORE: usize = 1024;
@@ -249,6 +249,80 @@ impl Unit {
     }
 }
 
+// "The team writes down when a unit is sound. Power-on is sound, every call keeps it so"
+impl Unit {
+    pub fn sound(&self) -> bool {
+        self.stores_sound() && self.out_sound() && self.in_sound() && self.split_sound() && self.rest_sound()
+    }
+
+    /// Nothing is stored that is empty or passes its store.
+    fn stores_sound(&self) -> bool {
+        let message = match &self.message {
+            Message::None => true,
+            Message::Unfinished(bytes) | Message::Ready(bytes) => (1..=STORE).contains(&bytes.len()),
+        };
+        let reply = match &self.reply {
+            None => true,
+            Some(reply) => (1..=STORE).contains(&reply.bytes.len()) && reply.sent <= reply.bytes.len(),
+        };
+        message && reply
+    }
+
+    /// A halted Bulk-OUT has nothing unfinished. An open transfer has brought data, is due more, and will fit.
+    fn out_sound(&self) -> bool {
+        let halted = !self.out_halted || (self.out_transfer.is_none() && !self.message_unfinished());
+        let open = match &self.out_transfer {
+            None => true,
+            Some(transfer) => {
+                self.message_unfinished()
+                    && transfer.tag != 0
+                    && transfer.tag == self.out_tag
+                    && (1..transfer.size).contains(&transfer.received)
+                    && transfer.received <= self.held()
+                    && self.held() + (transfer.size - transfer.received) <= STORE
+            }
+        };
+        halted && open
+    }
+
+    /// An open transfer that sends has its reply, unless that was dropped for the owed packet. A reply of which nothing
+    /// is left waits for the empty packet that closes its transfer.
+    fn in_sound(&self) -> bool {
+        let left = self.reply.as_ref().map(|reply| reply.left().len());
+        match &self.in_transfer {
+            None => !self.packet_owed && left != Some(0),
+            Some(transfer) if transfer.tag == 0 || transfer.asked == 0 => false,
+            Some(_) if self.packet_owed => left != Some(0),
+            Some(InTransfer { sending: None, .. }) => left != Some(0),
+            Some(InTransfer { sending: Some(sending), .. }) => {
+                let due = sending.n - sending.sent;
+                let full_packets = (HEADER + sending.sent) % self.packet_size == 0;
+                full_packets && left.is_some_and(|left| due <= left && (due == left) == sending.all_that_is_left)
+            }
+        }
+    }
+
+    fn split_sound(&self) -> bool {
+        match self.split {
+            Split::None => !self.packet_owed,
+            Split::AbortOut { count } => self.out_halted && !self.packet_owed && (1..STORE as u32).contains(&count),
+            Split::AbortIn { count } => count <= STORE as u32,
+            Split::Clear => {
+                let dropped = self.message == Message::None && self.reply.is_none();
+                self.out_halted && dropped && self.out_tag == 0 && self.in_tag == 0
+            }
+        }
+    }
+
+    /// REN off is LOCS, and an unconfigured unit is as at power-on.
+    fn rest_sound(&self) -> bool {
+        let size = matches!(self.packet_size, 64 | 512);
+        let remote = self.ren || self.remote == Remote::Locs;
+        let unconfigured = self.configured || *self == Unit { fault: self.fault, ..Unit::fresh(self.packet_size) };
+        size && remote && unconfigured
+    }
+}
+
 /// A header that has passed 6 to 10.
 enum Header {
     DevDepMsgOut { tag: u8, size: u32, eom: bool },
@@ -397,7 +471,7 @@ impl Unit {
     fn data_of<'packet>(&self, packet: &'packet [u8], start: usize, due: usize) -> Result<&'packet [u8], Number> {
         let body = &packet[start..];
         // "TransferSize data bytes and 0 to 3 alignment bytes up to a multiple of 4"
-        let aligned = (due + 3) / 4 * 4;
+        let aligned = due.div_ceil(4) * 4;
         // "More than that is 11. A packet shorter than P that ends too soon is 11."
         if body.len() > aligned || (body.len() < aligned && packet.len() < self.packet_size) {
             return Err(Number::WrongLength);
