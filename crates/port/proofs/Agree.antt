@@ -239,9 +239,9 @@ module _ (u : Device) (stored : Stored u) (h : Sound (u .state)) where
   later d n z =
       decide Keep
       (no (isConfigured (d .state)) ⇒ UNCONFIGURED ∣
-       packetSize (d .state) <ᵇ n ⇒ WRONG-SIZE ∣
-       on (outOf (d .state) .halted) ⇒ HALTED ∣
-       on (outOf (d .state) .ready) ⇒ WAIT ∣ [])
+      packetSize (d .state) <ᵇ n ⇒ WRONG-SIZE ∣
+      on (outOf (d .state) .halted) ⇒ HALTED ∣
+      on (outOf (d .state) .ready) ⇒ WAIT ∣ [])
       z
 
   outcome-agrees : (s : List ℕ) → outcome (u .state) s ≡ outcome (w .state) s

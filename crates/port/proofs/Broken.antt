@@ -41,9 +41,10 @@ empty-dropped halted recent = (eq-neb _ _ refl, and-right _ _ (eq-neb _ _ refl))
 
 broken-dropped : (halted : ℕ) (o : BulkOut) → Dropped (broken halted o)
 unfolding broken
-broken-dropped halted o =
-    (eq-neb _ _ refl,
-    ⊎-elim (λ e. and-left _ _ (ne-eqb (o .ready) OFF (λ z. let r = eqb-true (o .ready) ON e in omega arith))) (λ e. and-right _ _ (eq-neb _ _ (at-false _ _ _ e))) (cases (on (o .ready))))
+broken-dropped halted o = (
+  eq-neb _ _ refl,
+  ⊎-elim (λ e. and-left _ _ (ne-eqb (o .ready) OFF (λ z. let r = eqb-true (o .ready) ON e in omega arith))) (λ e. and-right _ _ (eq-neb _ _ (at-false _ _ _ e))) (cases (on (o .ready))),
+)
 
 -- what a result drops if its answer is a break
 abbrev Drops : (List ℕ → Bool) → Said → Type 0

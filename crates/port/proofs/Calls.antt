@@ -183,6 +183,7 @@ module _ (u : Device) where
     where
       no-row : Way u (setup-packet s room) (refused u NO-ROW)
       no-row = keeps u (setup-packet s room) NO-ROW (one NO-ROW (ownList (setup-packet s room)) tt) refl (λ e. omega arith)
+
       by : isSound u ≡ true → (x : Setup) → Configures x → Way u (setup-packet s room) (answered u x)
       by h (Configure value) k = does _ refl (fresh-sound (u .state .small .port .setting) value (sound-of _ h .port .size) k) (λ _. zeroed-stored (u .state .small .port .setting) value)
       by h (Asks row) k = pick-all (Way u (setup-packet s room)) (isConfigured (u .state)) _ _ (λ _. does _ (row-done (u .state) row) (row-sound (u .state) (sound-of _ h) row) (stays u _)) (λ _. no-row)
@@ -193,10 +194,13 @@ module _ (u : Device) where
   -- the store keeps its length, whatever is put into it
   put-stored : (s : List ℕ) (from count : ℕ) (st : State) → ((count ≡ 0 → ⊥) → outOf (u .state) .held + count ≤ STORE) → from + count ≤ length s → Stored u
       → Stored (record { message = paste (u .message) (outOf (u .state) .held) (drop from s) count; reply = u .reply; state = st })
-  put-stored s from count st room fits h = record { message = ⊎-elim
-      (λ e. let z = eqb-true count 0 e in ap length (sym (subst (λ (n : ℕ). u .message ≡ paste (u .message) (outOf (u .state) .held) (drop from s) n) (sym z) (paste-zero (u .message) (outOf (u .state) .held) (drop from s)))) ∙ h .message)
-      (λ e. let r = room (eqb-false count 0 e) in length-paste (u .message) (outOf (u .state) .held) (drop from s) count (let l = h .message in omega arith) (let l = length-drop from s in omega arith) ∙ h .message)
-      (cases (count =ᵇ 0)); reply = h .reply }
+  put-stored s from count st room fits h = record {
+    message = ⊎-elim
+        (λ e. let z = eqb-true count 0 e in ap length (sym (subst (λ (n : ℕ). u .message ≡ paste (u .message) (outOf (u .state) .held) (drop from s) n) (sym z) (paste-zero (u .message) (outOf (u .state) .held) (drop from s)))) ∙ h .message)
+        (λ e. let r = room (eqb-false count 0 e) in length-paste (u .message) (outOf (u .state) .held) (drop from s) count (let l = h .message in omega arith) (let l = length-drop from s in omega arith) ∙ h .message)
+        (cases (count =ᵇ 0));
+    reply = h .reply;
+  }
 
   -- a plan that halts does nothing else
   pub halted : (s : List ℕ) (n : ℕ) → carriedOut u s (planned (u .state) (Halt n)) ≡ refused (withState u (haltedOut (u .state))) n
@@ -240,22 +244,45 @@ module _ (u : Device) where
     out-way : Way u packet (bulkOut u s)
     unfolding bulkOut outPlan Q own leaves
     out-way = outcome-ways (u .state) s Q (record {
-      keeps = (λ e. keep-way UNSOUND (refuses UNSOUND (one UNSOUND (bulk faults) tt) refl (λ _. is-no _ e)),
-        (λ _. stays-way UNCONFIGURED tt refl (λ e. omega arith),
-        (λ _. stays-way WRONG-SIZE tt refl (λ e. omega arith),
-        (λ _. stays-way HALTED tt refl (λ e. omega arith),
-        (λ _. stays-way WAIT tt refl (λ e. omega arith), tt)))));
+      keeps = (
+        λ e. keep-way UNSOUND (refuses UNSOUND (one UNSOUND (bulk faults) tt) refl (λ _. is-no _ e)),
+        (
+          λ _. stays-way UNCONFIGURED tt refl (λ e. omega arith),
+          (
+            λ _. stays-way WRONG-SIZE tt refl (λ e. omega arith),
+            (
+              λ _. stays-way HALTED tt refl (λ e. omega arith),
+              (λ _. stays-way WAIT tt refl (λ e. omega arith), tt),
+            ),
+          ),
+        ),
+      );
       empty = λ p. keep-way DONE (does _ refl (sound-of _ (p .is-sound)) (λ h. h));
-      halts = λ p. let h = sound-of _ (p .is-sound) in
-        (halt-way h NOT-IN-FOURS tt refl (λ e. omega arith),
-        (halt-way h SHORT-HEADER tt refl (λ e. omega arith),
-        (halt-way h BAD-TAG tt refl (λ e. omega arith),
-        (halt-way h UNKNOWN-MSGID tt refl (λ e. omega arith),
-        (halt-way h RESERVED tt refl (λ e. omega arith),
-        (halt-way h OUT-OF-TURN tt refl (λ e. omega arith),
-        (halt-way h TOO-LONG tt refl (λ e. omega arith),
-        (halt-way h WRONG-LENGTH tt refl (λ e. omega arith),
-        (halt-way h MISALIGNED tt refl (λ e. omega arith), tt)))))))));
+      halts = λ p. let h = sound-of _ (p .is-sound) in (
+        halt-way h NOT-IN-FOURS tt refl (λ e. omega arith),
+        (
+          halt-way h SHORT-HEADER tt refl (λ e. omega arith),
+          (
+            halt-way h BAD-TAG tt refl (λ e. omega arith),
+            (
+              halt-way h UNKNOWN-MSGID tt refl (λ e. omega arith),
+              (
+                halt-way h RESERVED tt refl (λ e. omega arith),
+                (
+                  halt-way h OUT-OF-TURN tt refl (λ e. omega arith),
+                  (
+                    halt-way h TOO-LONG tt refl (λ e. omega arith),
+                    (
+                      halt-way h WRONG-LENGTH tt refl (λ e. omega arith),
+                      (halt-way h MISALIGNED tt refl (λ e. omega arith), tt),
+                    ),
+                  ),
+                ),
+              ),
+            ),
+          ),
+        ),
+      );
       continues = data-way;
       heads = head-way;
     })
@@ -265,12 +292,19 @@ module _ (u : Device) where
   in-way : (room : ℕ) → Way u (in-poll room) (bulkIn u room)
   unfolding bulkIn poll own leaves
   in-way room =
-      decide-lines P (refuse (u .state)) (inRules (u .state) room) _
-      (first-line u c (one UNSOUND (bulk []) tt),
-      (λ _. k UNCONFIGURED tt refl (λ e. omega arith),
-      (λ _. k WRONG-SIZE tt refl (λ e. omega arith),
-      (λ _. k HALTED tt refl (λ e. omega arith),
-      (λ _. k WAIT tt refl (λ e. omega arith), tt)))))
+      decide-lines P (refuse (u .state)) (inRules (u .state) room) _ (
+        first-line u c (one UNSOUND (bulk []) tt),
+        (
+          λ _. k UNCONFIGURED tt refl (λ e. omega arith),
+          (
+            λ _. k WRONG-SIZE tt refl (λ e. omega arith),
+            (
+              λ _. k HALTED tt refl (λ e. omega arith),
+              (λ _. k WAIT tt refl (λ e. omega arith), tt),
+            ),
+          ),
+        ),
+      )
       (λ n.
       let h = sound-of _ (not-no _ (n .0)) in
       pick-all P (isOwed (inOf (u .state))) _ _ (λ _. does _ refl (shut-in-sound (u .state) h) (stays u _))
@@ -280,10 +314,13 @@ module _ (u : Device) where
     where
       c : Call
       c = in-poll room
+
       P : Said → Type 0
       P r = Way u (in-poll room) (said u r)
+
       k : (n : ℕ) → T (elem n (bulk [])) → leaves n ≡ unchanged → (n ≡ UNSOUND → ⊥) → Way u (in-poll room) (refused u n)
       k n o l e = keeps u (in-poll room) n (one n (bulk []) o) l e
+
       send-done : send (u .state) (unsentOf u) .answer .number ≡ DONE
       send-done = send-number (u .state) (unsentOf u)
 
@@ -293,22 +330,32 @@ module _ (u : Device) where
   unfolding take-message own leaves
   take-way room =
       let c = take-into room in
-      decide-lines (Way u c) (refused u) (takeRules u room) _
-      (first-line u c (one UNSOUND (ownList c) tt),
-      (λ _. keeps u c UNCONFIGURED (one UNCONFIGURED (ownList c) tt) refl (λ e. omega arith),
-      (λ _. keeps u c NOT-NOW (one NOT-NOW (ownList c) tt) refl (λ e. omega arith),
-      (λ _. keeps u c WRONG-SIZE (one WRONG-SIZE (ownList c) tt) refl (λ e. omega arith), tt))))
+      decide-lines (Way u c) (refused u) (takeRules u room) _ (
+        first-line u c (one UNSOUND (ownList c) tt),
+        (
+          λ _. keeps u c UNCONFIGURED (one UNCONFIGURED (ownList c) tt) refl (λ e. omega arith),
+          (
+            λ _. keeps u c NOT-NOW (one NOT-NOW (ownList c) tt) refl (λ e. omega arith),
+            (λ _. keeps u c WRONG-SIZE (one WRONG-SIZE (ownList c) tt) refl (λ e. omega arith), tt),
+          ),
+        ),
+      )
       (λ n. does _ refl (released-sound (u .state) (sound-of _ (not-no _ (n .0))) (eqb-true _ _ (not-no _ (n .1 .1 .0)))) (stays u _))
 
   offer-way : (bytes : List ℕ) → Way u (offer-reply bytes) (offer u bytes)
   unfolding offer own leaves
   offer-way bytes =
       let c = offer-reply bytes in
-      decide-lines (Way u c) (refused u) (offerRules u bytes) _
-      (first-line u c (one UNSOUND (ownList c) tt),
-      (λ _. keeps u c UNCONFIGURED (one UNCONFIGURED (ownList c) tt) refl (λ e. omega arith),
-      (λ _. keeps u c WRONG-SIZE (one WRONG-SIZE (ownList c) tt) refl (λ e. omega arith),
-      (λ _. keeps u c NOT-NOW (one NOT-NOW (ownList c) tt) refl (λ e. omega arith), tt))))
+      decide-lines (Way u c) (refused u) (offerRules u bytes) _ (
+        first-line u c (one UNSOUND (ownList c) tt),
+        (
+          λ _. keeps u c UNCONFIGURED (one UNCONFIGURED (ownList c) tt) refl (λ e. omega arith),
+          (
+            λ _. keeps u c WRONG-SIZE (one WRONG-SIZE (ownList c) tt) refl (λ e. omega arith),
+            (λ _. keeps u c NOT-NOW (one NOT-NOW (ownList c) tt) refl (λ e. omega arith), tt),
+          ),
+        ),
+      )
       (λ n.
       let fits : length bytes ≤ STORE = ltb-false _ _ (none-right (length bytes =ᵇ 0) _ (n .1 .1 .0)) in
       does _ refl (offered-sound (u .state) (sound-of _ (not-no _ (n .0))) (length bytes) fits (none-left _ _ (n .1 .1 .1 .0)) (none-right (hasReply (inOf (u .state))) _ (n .1 .1 .1 .0)))

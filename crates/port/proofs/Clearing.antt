@@ -99,6 +99,7 @@ module _ (u : Device) (control room : ℕ) (h : Ready u control room) where
     where
       closed-running : shut (inOf (u .state)) .halted ≡ OFF
       closed-running = shut-halted (inOf (u .state)) ∙ h .running
+
       closed : isOwed (shut (inOf (u .state))) ≡ false
       closed = shut-unowed (inOf (u .state))
 
@@ -138,6 +139,7 @@ send-survive st x =
   where
     over : ℕ → Survivors
     over halted = record { ren = st .small .port .ren; remote = st .remote; status = st .small .port .status; halted = halted }
+
     begun-halted : started (inOf st) x .halted ≡ inOf st .halted
     begun-halted = pick-all (λ (b : BulkIn). b .halted ≡ inOf st .halted) (inOf st .phase =ᵇ ASKED) _ _ (λ _. refl) (λ _. refl)
 
@@ -149,7 +151,8 @@ poll-survive st x room =
 
 pub survive : Survive step
 unfolding step bulkIn
-survive u control room h =
-    (ap (λ (r : Result). survivors (r .unit .state)) (initiated u control room h) ∙ initiate-survive (u .state),
-    poll-survive (u .state) (unsentOf u) room,
-    ap (λ (r : Result). survivors (r .unit .state)) (checked u control room h) ∙ check-survive (u .state))
+survive u control room h = (
+  ap (λ (r : Result). survivors (r .unit .state)) (initiated u control room h) ∙ initiate-survive (u .state),
+  poll-survive (u .state) (unsentOf u) room,
+  ap (λ (r : Result). survivors (r .unit .state)) (checked u control room h) ∙ check-survive (u .state),
+)

@@ -114,6 +114,7 @@ module _ (st : State) (h : Sound st) where
     where
       gone-phase : Going (started (inOf st) unsent) → started (inOf st) unsent .phase ≡ OWED → ⊥
       gone-phase g e = let f = g .phase in omega arith
+
       not-clear : isClear (st .split) ≡ true → ⊥
       not-clear e = ⊎-elim open-now unowed (clears e .phase)
 
@@ -227,6 +228,7 @@ module _ (st : State) (h : Sound st) where
     where
       out-halted : outOf st .halted ≤ 1
       out-halted = ⊎-elim (λ w. let z = w .1 .running in omega arith) (λ w. w .1 .halted) (h .out)
+
       kept-halted : (s : Split) → SplitSound s (outOf st) (inOf st) → keepsHalt s ≡ true → outOf st .halted ≡ 1
       kept-halted None k e = absurd (false≢true e)
       kept-halted (AbortOut count) k e = k .1
@@ -297,8 +299,8 @@ module _ (st : State) (h : Sound st) where
   released-sound r = record {
     port = h .port;
     out = ⊎-elim (λ w. let z = w .1 .unready in absurd (omega arith))
-      (λ w. let o = w .1 in inr (w .0, record { halted = o .halted; ready = omega arith; end = o .end; got = o .got; held = omega arith; whole = λ e. absurd (omega arith); dropped = λ _ _. refl }))
-      (h .out);
+        (λ w. let o = w .1 in inr (w .0, record { halted = o .halted; ready = omega arith; end = o .end; got = o .got; held = omega arith; whole = λ e. absurd (omega arith); dropped = λ _ _. refl }))
+        (h .out);
     inward = h .inward;
     split = split (st .split) (h .split);
   }

@@ -67,15 +67,18 @@ module _ (st : State) (h : Sound st) where
   unfolding broken
   broken-sound halted bound keeps = record {
     port = h .port;
-    out = inr (refl, record {
-      halted = bound;
-      ready = out-ready;
-      end = refl;
-      got = refl;
-      held = pick-all (λ (n : ℕ). n ≤ STORE) (on (outOf st .ready)) _ _ (λ _. out-held) (λ _. omega arith);
-      whole = λ r e. out-whole r (sym (at-true (on (outOf st .ready)) _ _ (eq-eqb _ _ r)) ∙ e);
-      dropped = λ _ r. at-false (on (outOf st .ready)) _ _ (ne-eqb _ _ r);
-    });
+    out = inr (
+      refl,
+      record {
+        halted = bound;
+        ready = out-ready;
+        end = refl;
+        got = refl;
+        held = pick-all (λ (n : ℕ). n ≤ STORE) (on (outOf st .ready)) _ _ (λ _. out-held) (λ _. omega arith);
+        whole = λ r e. out-whole r (sym (at-true (on (outOf st .ready)) _ _ (eq-eqb _ _ r)) ∙ e);
+        dropped = λ _ r. at-false (on (outOf st .ready)) _ _ (ne-eqb _ _ r);
+      },
+    );
     inward = h .inward;
     split = split (st .split) (h .split) keeps;
   }
@@ -114,27 +117,33 @@ absorbed-sound o count running end tag room within fits some =
     (λ e.
     let whole = at-true (o .left =ᵇ count) in
     let full = eqb-true (o .left) count e in
-    inr (omega arith, record {
-      halted = omega arith;
-      ready = subst (λ (n : ℕ). n ≤ 1) (sym (whole _ _ e)) end;
-      end = whole _ _ e;
-      got = whole _ _ e;
-      held = omega arith;
-      whole = λ _ z. some (omega arith);
-      dropped = λ h. absurd (omega arith);
-    }))
+    inr (
+      omega arith,
+      record {
+        halted = omega arith;
+        ready = subst (λ (n : ℕ). n ≤ 1) (sym (whole _ _ e)) end;
+        end = whole _ _ e;
+        got = whole _ _ e;
+        held = omega arith;
+        whole = λ _ z. some (omega arith);
+        dropped = λ h. absurd (omega arith);
+      },
+    ))
     (λ e.
     let part = at-false (o .left =ᵇ count) in
     let less = eqb-false (o .left) count e in
-    inl (λ z. less (omega arith), record {
-      running = running;
-      unready = part _ _ e;
-      end = subst (λ (n : ℕ). n ≤ 1) (sym (part _ _ e)) end;
-      tag = tag;
-      some = λ z. some (sym (part _ _ e) ∙ z);
-      within = subst (λ (n : ℕ). n ≤ o .held + count) (sym (part _ _ e)) (omega arith);
-      room = omega arith;
-    }))
+    inl (
+      λ z. less (omega arith),
+      record {
+        running = running;
+        unready = part _ _ e;
+        end = subst (λ (n : ℕ). n ≤ 1) (sym (part _ _ e)) end;
+        tag = tag;
+        some = λ z. some (sym (part _ _ e) ∙ z);
+        within = subst (λ (n : ℕ). n ≤ o .held + count) (sym (part _ _ e)) (omega arith);
+        room = omega arith;
+      },
+    ))
     (cases (o .left =ᵇ count))
 
 module _ (st : State) (s : List ℕ) where
@@ -148,9 +157,9 @@ module _ (st : State) (s : List ℕ) where
       record {
         port = h .port;
         out = ⊎-elim
-          (λ w. let o = w .1 in let r = o .room in let g = o .within in absorbed-sound (outOf st) (min (outOf st .left) (length s)) (o .running) (o .end) (o .tag) r g (omega arith) (λ e. o .some (omega arith)))
-          (λ w. absurd (c .is-open (w .0)))
-          (h .out);
+            (λ w. let o = w .1 in let r = o .room in let g = o .within in absorbed-sound (outOf st) (min (outOf st .left) (length s)) (o .running) (o .end) (o .tag) r g (omega arith) (λ e. o .some (omega arith)))
+            (λ w. absurd (c .is-open (w .0)))
+            (h .out);
         inward = h .inward;
         split = running-split (st .split) _ _ _ _ (h .split) (running (c .passed)) (λ e. e);
       }
@@ -183,7 +192,7 @@ module _ (st : State) (s : List ℕ) where
       record {
         port = h .port;
         out = absorbed-sound (opened (outOf st) tag size end) (min size (length s - HEADER)) (let b = r .halted in let n = running (c .passed) in ⊎-elim (λ e. absurd (n e)) (λ e. e) (flag (outOf st .halted) b)) (law .2) (law .0) room (omega arith) (omega arith)
-          (λ e. law .1 (⊎-elim (λ l. let f : HEADER < length s = part-full size (c .none .1 .1 .0) (h .port .size) (ltb-true _ _ l) in absurd (omega arith)) (λ l. let b : size ≤ length s - HEADER = ltb-false _ _ l in omega arith) (cases (length s - HEADER <ᵇ size))));
+            (λ e. law .1 (⊎-elim (λ l. let f : HEADER < length s = part-full size (c .none .1 .1 .0) (h .port .size) (ltb-true _ _ l) in absurd (omega arith)) (λ l. let b : size ≤ length s - HEADER = ltb-false _ _ l in omega arith) (cases (length s - HEADER <ᵇ size))));
         inward = h .inward;
         split = running-split (st .split) _ _ _ _ (h .split) (running (c .passed)) (λ e. e);
       }

@@ -88,9 +88,25 @@ open-of o e =
 open-to : (o : BulkOut) → OpenOut o → openSound o ≡ true
 unfolding openSound
 open-to o h =
-    of-all (open-tests o)
-    (eq-eqb _ _ (h .running), (eq-eqb _ _ (h .unready), (le-leb _ _ (h .end), (ne-neb _ _ (h .tag), (ne-neb _ _ (h .some), (le-leb _ _ (h .within),
-    (le-leb (o .held) STORE (let r = h .room in omega arith), (le-leb (o .left) (STORE - o .held) (let r = h .room in omega arith), tt))))))))
+    of-all (open-tests o) (
+      eq-eqb _ _ (h .running),
+      (
+        eq-eqb _ _ (h .unready),
+        (
+          le-leb _ _ (h .end),
+          (
+            ne-neb _ _ (h .tag),
+            (
+              ne-neb _ _ (h .some),
+              (
+                le-leb _ _ (h .within),
+                (le-leb (o .held) STORE (let r = h .room in omega arith), (le-leb (o .left) (STORE - o .held) (let r = h .room in omega arith), tt)),
+              ),
+            ),
+          ),
+        ),
+      ),
+    )
 
 pub record RestingOut (o : BulkOut) : Type 0 where
   pub halted : o .halted ≤ 1
@@ -125,12 +141,31 @@ resting-of o e =
 resting-to : (o : BulkOut) → RestingOut o → restingSound o ≡ true
 unfolding restingSound heldSound
 resting-to o h =
-    of-all (resting-tests o)
-    (le-leb _ _ (h .halted), (le-leb _ _ (h .ready), (eq-eqb _ _ (h .end), (eq-eqb _ _ (h .got), (le-leb _ _ (h .held),
-    (of-all (held-tests o)
-    (imply-to (on (o .ready)) _ (λ r. ne-neb _ _ (h .whole (eqb-true _ _ r))),
-    (imply-to (on (o .halted) and no (on (o .ready))) _ (λ r. eq-eqb _ _ (h .dropped (eqb-true _ _ (both-left _ _ r)) (eqb-false _ _ (is-no _ (both-right (on (o .halted)) _ r))))),
-    tt)), tt))))))
+    of-all (resting-tests o) (
+      le-leb _ _ (h .halted),
+      (
+        le-leb _ _ (h .ready),
+        (
+          eq-eqb _ _ (h .end),
+          (
+            eq-eqb _ _ (h .got),
+            (
+              le-leb _ _ (h .held),
+              (
+                of-all (held-tests o) (
+                  imply-to (on (o .ready)) _ (λ r. ne-neb _ _ (h .whole (eqb-true _ _ r))),
+                  (
+                    imply-to (on (o .halted) and no (on (o .ready))) _ (λ r. eq-eqb _ _ (h .dropped (eqb-true _ _ (both-left _ _ r)) (eqb-false _ _ (is-no _ (both-right (on (o .halted)) _ r))))),
+                    tt,
+                  ),
+                ),
+                tt,
+              ),
+            ),
+          ),
+        ),
+      ),
+    )
 
 abbrev pub OutSound : BulkOut → Type 0
 OutSound o = ((o .left ≡ 0 → ⊥) × OpenOut o) ⊎ ((o .left ≡ 0) × RestingOut o)
@@ -172,9 +207,10 @@ idle-of b e =
 idle-to : (b : BulkIn) → Idle b → idle b ≡ true
 unfolding idle unasked unsending
 idle-to b h =
-    of-all (unasked b & unsending b & [])
-    (of-all (unasked-tests b) (eq-eqb _ _ (h .asked), (eq-eqb _ _ (h .enabled), (eq-eqb _ _ (h .term), tt))),
-    (of-all (unsending-tests b) (eq-eqb _ _ (h .left), (eq-eqb _ _ (h .sent), tt)), tt))
+    of-all (unasked b & unsending b & []) (
+      of-all (unasked-tests b) (eq-eqb _ _ (h .asked), (eq-eqb _ _ (h .enabled), (eq-eqb _ _ (h .term), tt))),
+      (of-all (unsending-tests b) (eq-eqb _ _ (h .left), (eq-eqb _ _ (h .sent), tt)), tt),
+    )
 
 pub record AskedIn (b : BulkIn) : Type 0 where
   pub tag : b .tag ≡ 0 → ⊥
@@ -206,10 +242,22 @@ asked-of b e =
 asked-to : (b : BulkIn) → AskedIn b → askedSound b ≡ true
 unfolding askedSound unsending
 asked-to b h =
-    of-all (asked-tests b)
-    (ne-neb _ _ (h .tag), (ne-neb _ _ (h .some), (le-leb _ _ (h .most), (le-leb _ _ (h .enabled),
-    (imply-to (b .enabled =ᵇ OFF) _ (λ z. eq-eqb _ _ (h .term (eqb-true _ _ z))),
-    (of-all (unsending-tests b) (eq-eqb _ _ (h .left), (eq-eqb _ _ (h .sent), tt)), tt))))))
+    of-all (asked-tests b) (
+      ne-neb _ _ (h .tag),
+      (
+        ne-neb _ _ (h .some),
+        (
+          le-leb _ _ (h .most),
+          (
+            le-leb _ _ (h .enabled),
+            (
+              imply-to (b .enabled =ᵇ OFF) _ (λ z. eq-eqb _ _ (h .term (eqb-true _ _ z))),
+              (of-all (unsending-tests b) (eq-eqb _ _ (h .left), (eq-eqb _ _ (h .sent), tt)), tt),
+            ),
+          ),
+        ),
+      ),
+    )
 
 pub record SendingIn (b : BulkIn) : Type 0 where
   pub tag : b .tag ≡ 0 → ⊥
@@ -234,9 +282,19 @@ sending-of b e =
 sending-to : (b : BulkIn) → SendingIn b → sendingSound b ≡ true
 unfolding sendingSound unasked
 sending-to b h =
-    of-all (sending-tests b)
-    (ne-neb _ _ (h .tag), (le-leb _ _ (h .stored), (le-leb (b .sent) STORE (let r = h .count in omega arith), (le-leb (b .left) (STORE - b .sent) (let r = h .count in omega arith),
-    (of-all (unasked-tests b) (eq-eqb _ _ (h .asked), (eq-eqb _ _ (h .enabled), (eq-eqb _ _ (h .term), tt))), tt)))))
+    of-all (sending-tests b) (
+      ne-neb _ _ (h .tag),
+      (
+        le-leb _ _ (h .stored),
+        (
+          le-leb (b .sent) STORE (let r = h .count in omega arith),
+          (
+            le-leb (b .left) (STORE - b .sent) (let r = h .count in omega arith),
+            (of-all (unasked-tests b) (eq-eqb _ _ (h .asked), (eq-eqb _ _ (h .enabled), (eq-eqb _ _ (h .term), tt))), tt),
+          ),
+        ),
+      ),
+    )
 
 -- how far the transfer is
 pub data Phase (b : BulkIn) : Type 0 where
@@ -355,9 +413,22 @@ clear-of o b e =
 clear-to : (o : BulkOut) (b : BulkIn) → ClearSound o b → clearSound o b ≡ true
 unfolding clearSound
 clear-to o b h =
-    of-all (clear-tests o b)
-    (eq-eqb _ _ (h .halted), (eq-eqb _ _ (h .held), (eq-eqb _ _ (h .out-tag), (eq-eqb _ _ (h .unsent), (eq-eqb _ _ (h .in-tag),
-    (⊎-elim (λ t. or-left _ _ (eq-eqb _ _ t)) (λ t. or-right (b .phase =ᵇ CLOSED) _ (eq-eqb _ _ t)) (h .phase), tt))))))
+    of-all (clear-tests o b) (
+      eq-eqb _ _ (h .halted),
+      (
+        eq-eqb _ _ (h .held),
+        (
+          eq-eqb _ _ (h .out-tag),
+          (
+            eq-eqb _ _ (h .unsent),
+            (
+              eq-eqb _ _ (h .in-tag),
+              (⊎-elim (λ t. or-left _ _ (eq-eqb _ _ t)) (λ t. or-right (b .phase =ᵇ CLOSED) _ (eq-eqb _ _ t)) (h .phase), tt),
+            ),
+          ),
+        ),
+      ),
+    )
 
 abbrev pub SplitSound : Split → BulkOut → BulkIn → Type 0
 SplitSound None o b = b .phase ≡ OWED → ⊥

@@ -25,20 +25,20 @@ unfoldable pub openSound : BulkOut → Bool
 openSound o =
     all
     (o .halted =ᵇ OFF &
-     o .ready =ᵇ OFF &
-     isFlag (o .end) &
-     o .recent ≠ᵇ 0 &
-     o .got ≠ᵇ 0 &
-     o .got ≤ᵇ o .held &
-     o .held ≤ᵇ STORE &
-     o .left ≤ᵇ STORE - o .held & [])
+    o .ready =ᵇ OFF &
+    isFlag (o .end) &
+    o .recent ≠ᵇ 0 &
+    o .got ≠ᵇ 0 &
+    o .got ≤ᵇ o .held &
+    o .held ≤ᵇ STORE &
+    o .left ≤ᵇ STORE - o .held & [])
 
 -- a ready message has a byte; a halted Bulk-OUT holds no part of an unfinished one
 unfoldable pub heldSound : BulkOut → Bool
 heldSound o =
     all
     (implies (on (o .ready)) (o .held ≠ᵇ 0) &
-     implies (on (o .halted) and no (on (o .ready))) (o .held =ᵇ 0) & [])
+    implies (on (o .halted) and no (on (o .ready))) (o .held =ᵇ 0) & [])
 
 unfoldable pub restingSound : BulkOut → Bool
 restingSound o =
@@ -61,11 +61,11 @@ unfoldable pub askedSound : BulkIn → Bool
 askedSound b =
     all
     (b .tag ≠ᵇ 0 &
-     b .asked ≠ᵇ 0 &
-     b .asked ≤ᵇ STORE &
-     isFlag (b .enabled) &
-     implies (b .enabled =ᵇ OFF) (b .term =ᵇ 0) &
-     unsending b & [])
+    b .asked ≠ᵇ 0 &
+    b .asked ≤ᵇ STORE &
+    isFlag (b .enabled) &
+    implies (b .enabled =ᵇ OFF) (b .term =ᵇ 0) &
+    unsending b & [])
 
 unfoldable pub sendingSound : BulkIn → Bool
 sendingSound b =
@@ -75,9 +75,9 @@ unfoldable pub phaseSound : BulkIn → Bool
 phaseSound b =
     first
     (b .phase =ᵇ CLOSED ⇒ all (b .tag =ᵇ 0 & idle b & []) ∣
-     b .phase =ᵇ ASKED ⇒ askedSound b ∣
-     b .phase =ᵇ SENDING ⇒ sendingSound b ∣
-     b .phase =ᵇ OWED ⇒ all (b .tag ≠ᵇ 0 & idle b & []) ∣ [])
+    b .phase =ᵇ ASKED ⇒ askedSound b ∣
+    b .phase =ᵇ SENDING ⇒ sendingSound b ∣
+    b .phase =ᵇ OWED ⇒ all (b .tag ≠ᵇ 0 & idle b & []) ∣ [])
     false
 
 unfoldable pub inSound : BulkIn → Bool
@@ -88,11 +88,11 @@ unfoldable pub clearSound : BulkOut → BulkIn → Bool
 clearSound o b =
     all
     (on (o .halted) &
-     o .held =ᵇ 0 &
-     o .recent =ᵇ 0 &
-     b .unsent =ᵇ 0 &
-     b .recent =ᵇ 0 &
-     (b .phase =ᵇ CLOSED or isOwed b) & [])
+    o .held =ᵇ 0 &
+    o .recent =ᵇ 0 &
+    b .unsent =ᵇ 0 &
+    b .recent =ᵇ 0 &
+    (b .phase =ᵇ CLOSED or isOwed b) & [])
 
 -- a packet is owed only in abort-IN or clear, and an abort-OUT keeps the halt
 unfoldable pub notOwed : BulkIn → Bool
@@ -111,6 +111,6 @@ unfoldable pub sound : State → Bool
 sound st =
     all
     (portSound (st .small .port) &
-     outSound (outOf st) &
-     inSound (inOf st) &
-     splitSound (st .split) (outOf st) (inOf st) & [])
+    outSound (outOf st) &
+    inSound (inOf st) &
+    splitSound (st .split) (outOf st) (inOf st) & [])

@@ -10,7 +10,6 @@ infixr 30 _and_
 infixr 25 _or_
 infixr 3 _&_
 infixr 2 _⇒_∣_
-
 -- ** tests
 
 abbrev pub _=ᵇ_ : ℕ → ℕ → Bool

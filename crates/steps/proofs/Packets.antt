@@ -88,25 +88,6 @@ module _ (o : BulkOut) (count left : ℕ) (less : left ≡ o .left - count) wher
   unfolding absorbed pick
   absorbed-part e = rw (ne-eqb (o .left) count e, less)
 
-module _ (halted : ℕ) (o : BulkOut) where
-  pub broken-ready : o .ready ≡ 1 → _≡_ {A = BulkOut} (record { held = o .held; left = 0; got = 0; end = OFF; ready = o .ready; halted = halted; recent = o .recent }) (broken halted o)
-  unfolding broken pick
-  broken-ready e = rw (eq-eqb (o .ready) 1 e)
-
-  pub broken-unready : (o .ready ≡ 1 → ⊥) → _≡_ {A = BulkOut} (record { held = 0; left = 0; got = 0; end = OFF; ready = o .ready; halted = halted; recent = o .recent }) (broken halted o)
-  unfolding broken pick
-  broken-unready e = rw (ne-eqb (o .ready) 1 e)
-
--- a column of the remote/local table, with REN on and off
-module _ (move : Remote → Remote) (ren : ℕ) (r : Remote) where
-  pub moves : (y x : Remote) → ren ≡ 1 → r ≡ y → x ≡ move y → x ≡ withRenOn move ren r
-  unfolding withRenOn
-  moves y x e f g = pick-true x _ _ _ (eq-eqb ren 1 e) (g ∙ ap move (sym f))
-
-  pub stays : (ren ≡ 1 → ⊥) → r ≡ withRenOn move ren r
-  unfolding withRenOn
-  stays e = pick-false r _ _ _ (ne-eqb ren 1 e) refl
-
 -- ** every outcome can be carried out
 
 module _ (st : State) (s : List ℕ) where

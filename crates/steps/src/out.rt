@@ -1,17 +1,13 @@
 // A Bulk-OUT packet: what it comes to, decided over the state, and what that leaves.
-use crate::parts::broken;
-use crate::parts::with_out;
-use crate::sound::sound;
+use port::types::ASKED;
 use port::types::BulkIn;
 use port::types::BulkOut;
+use port::types::CLOSED;
 use port::types::Outcome;
 use port::types::Plan;
-use port::types::Remote;
+use port::types::STORE;
 use port::types::Small;
 use port::types::State;
-use port::types::ASKED;
-use port::types::CLOSED;
-use port::types::STORE;
 use rules::DONE;
 use rules::HALTED;
 use rules::MISALIGNED;
@@ -25,20 +21,21 @@ use rules::UNSOUND;
 use rules::WAIT;
 use rules::WRONG_LENGTH;
 use rules::WRONG_SIZE;
-use wire::header::read_header;
+use state::parts::broken;
+use state::parts::with_out;
+use state::remote::heard;
+use state::sound::sound;
 use wire::header::HEADER;
+use wire::header::read_header;
 use wire::numbers::all_zero;
 use wire::types::Header;
 use wire::types::Read;
 ghost use mathlib.Core.Path.{_≡_};
-ghost use Prim.Native.Nat.{ℕ, _+_, _-_, _≤_, _<_, min};
-ghost use lib.ListN.{length};
-ghost use lib.Dec.{ltb};
+ghost use Prim.Native.Nat.{ℕ, _≤_, _<_, min};
 ghost use Rattle.rules.specs.Choice.{first};
 ghost use Rattle.wire.specs.Header.{readHeader, headerNumber};
 ghost use Rattle.port.specs.Parts.{unfinished};
-ghost use Rattle.port.specs.Remote.{headed, withRenOn};
-ghost use Rattle.port.specs.Out.{alignment, fitRules, more, requestOutOfTurn, outOfTurn, dataLength, headerRules, headerSays, outRules, outcome, absorbed, opened, tagged, requested, CanAbsorb, CanAccept, Can, Room, plain, accepted, planned, outPlan};
+ghost use Rattle.port.specs.Out.{alignment, fitRules, more, requestOutOfTurn, outOfTurn, dataLength, headerRules, headerSays, outRules, outcome, absorbed, opened, tagged, CanAbsorb, CanAccept, Can, Room, plain, accepted, planned, outPlan};
 
 // A store's bytes, as a TransferSize and as a length.
 const MOST: u32 = STORE as u32;
@@ -291,21 +288,6 @@ fn absorbed(o: BulkOut, count: usize) -> BulkOut
         halted: o.halted,
         recent: o.recent,
     }
-}
-
-// A DEV_DEP_MSG_OUT header moves the remote/local state while REN is on.
-fn heard(ren: u8, r: Remote) -> Remote
-    ensures { λ x. ⌜ x ≡ withRenOn headed ren r ⌝ }
-{
-    if ren == 1 {
-        return match r {
-            Remote::Locs => Remote::Rems,
-            Remote::Rems => Remote::Rems,
-            Remote::Lwls => Remote::Rwls,
-            Remote::Rwls => Remote::Rwls,
-        };
-    }
-    r
 }
 
 // What is asked for, as much of it as a store can hold.

@@ -57,7 +57,7 @@ abbrev pub ofEndpoint : List ℕ → ℕ → Row → Row → Setup
 ofEndpoint s size out inward =
     first
     (wIndex s =ᵇ BULK-OUT ⇒ row (matches s 0 0 BULK-OUT size) (Asks out) ∣
-     wIndex s =ᵇ BULK-IN ⇒ row (matches s 0 0 BULK-IN size) (Asks inward) ∣ [])
+    wIndex s =ᵇ BULK-IN ⇒ row (matches s 0 0 BULK-IN size) (Asks inward) ∣ [])
     NoRow
 
 abbrev pub byEndpoint : List ℕ → ℕ → (Endpoint → Row) → Setup
@@ -68,9 +68,9 @@ unfoldable pub toEndpoint : List ℕ → Setup
 toEndpoint s =
     first
     (bRequest s =ᵇ 1 ⇒ row (matches s 1 255 BULK-OUT 2) (Asks (InitiateAbortBulkOut (wValue s))) ∣
-     bRequest s =ᵇ 2 ⇒ row (matches s 0 0 BULK-OUT 8) (Asks CheckAbortBulkOutStatus) ∣
-     bRequest s =ᵇ 3 ⇒ row (matches s 1 255 BULK-IN 2) (Asks (InitiateAbortBulkIn (wValue s))) ∣
-     bRequest s =ᵇ 4 ⇒ row (matches s 0 0 BULK-IN 8) (Asks CheckAbortBulkInStatus) ∣ [])
+    bRequest s =ᵇ 2 ⇒ row (matches s 0 0 BULK-OUT 8) (Asks CheckAbortBulkOutStatus) ∣
+    bRequest s =ᵇ 3 ⇒ row (matches s 1 255 BULK-IN 2) (Asks (InitiateAbortBulkIn (wValue s))) ∣
+    bRequest s =ᵇ 4 ⇒ row (matches s 0 0 BULK-IN 8) (Asks CheckAbortBulkInStatus) ∣ [])
     NoRow
 
 -- "Class requests to the interface are A1"
@@ -78,13 +78,13 @@ unfoldable pub toInterface : List ℕ → Setup
 toInterface s =
     first
     (bRequest s =ᵇ 5 ⇒ row (matches s 0 0 0 1) (Asks InitiateClear) ∣
-     bRequest s =ᵇ 6 ⇒ row (matches s 0 0 0 2) (Asks CheckClearStatus) ∣
-     bRequest s =ᵇ 7 ⇒ row (matches s 0 0 0 CONTROL) (Asks GetCapabilities) ∣
-     bRequest s =ᵇ 64 ⇒ row (matches s 0 0 0 1) (Asks IndicatorPulse) ∣
-     bRequest s =ᵇ 128 ⇒ row (matches s 2 127 0 3) (Asks (ReadStatusByte (wValue s))) ∣
-     bRequest s =ᵇ 160 ⇒ row (matches s 0 1 0 1) (Asks (RenControl (wValue s))) ∣
-     bRequest s =ᵇ 161 ⇒ row (matches s 0 0 0 1) (Asks GoToLocal) ∣
-     bRequest s =ᵇ 162 ⇒ row (matches s 0 0 0 1) (Asks LocalLockout) ∣ [])
+    bRequest s =ᵇ 6 ⇒ row (matches s 0 0 0 2) (Asks CheckClearStatus) ∣
+    bRequest s =ᵇ 7 ⇒ row (matches s 0 0 0 CONTROL) (Asks GetCapabilities) ∣
+    bRequest s =ᵇ 64 ⇒ row (matches s 0 0 0 1) (Asks IndicatorPulse) ∣
+    bRequest s =ᵇ 128 ⇒ row (matches s 2 127 0 3) (Asks (ReadStatusByte (wValue s))) ∣
+    bRequest s =ᵇ 160 ⇒ row (matches s 0 1 0 1) (Asks (RenControl (wValue s))) ∣
+    bRequest s =ᵇ 161 ⇒ row (matches s 0 0 0 1) (Asks GoToLocal) ∣
+    bRequest s =ᵇ 162 ⇒ row (matches s 0 0 0 1) (Asks LocalLockout) ∣ [])
     NoRow
 
 -- "02 1, 02 3 CLEAR_, SET_FEATURE halt, by endpoint"
@@ -104,8 +104,8 @@ unfoldable pub readSetup : List ℕ → Setup
 readSetup s =
     first
     (bmRequestType s =ᵇ 0xA2 ⇒ toEndpoint s ∣
-     bmRequestType s =ᵇ 0xA1 ⇒ toInterface s ∣
-     bmRequestType s =ᵇ 0x02 ⇒ toFeature s ∣
-     bmRequestType s =ᵇ 0x82 ⇒ toStatus s ∣
-     bmRequestType s =ᵇ 0x00 ⇒ toDevice s ∣ [])
+    bmRequestType s =ᵇ 0xA1 ⇒ toInterface s ∣
+    bmRequestType s =ᵇ 0x02 ⇒ toFeature s ∣
+    bmRequestType s =ᵇ 0x82 ⇒ toStatus s ∣
+    bmRequestType s =ᵇ 0x00 ⇒ toDevice s ∣ [])
     NoRow

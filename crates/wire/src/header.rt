@@ -101,10 +101,14 @@ pub fn read_header(s: &[u8]) -> Read
 {
     let n = s.len();
     if n % 4 != 0 {
-        return Read::Fault { number: NOT_IN_FOURS };
+        return Read::Fault {
+            number: NOT_IN_FOURS,
+        };
     }
     if n < HEADER {
-        return Read::Fault { number: SHORT_HEADER };
+        return Read::Fault {
+            number: SHORT_HEADER,
+        };
     }
     let tag = s[1];
     if tag == 0 {

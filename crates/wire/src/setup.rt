@@ -78,10 +78,7 @@ fn to_endpoint(s: &[u8]) -> Setup
             matches(s, 1, 255, BULK_OUT, 2),
             Row::InitiateAbortBulkOut { tag },
         ),
-        2 => row(
-            matches(s, 0, 0, BULK_OUT, 8),
-            Row::CheckAbortBulkOutStatus,
-        ),
+        2 => row(matches(s, 0, 0, BULK_OUT, 8), Row::CheckAbortBulkOutStatus),
         3 => row(
             matches(s, 1, 255, BULK_IN, 2),
             Row::InitiateAbortBulkIn { tag },
@@ -103,10 +100,7 @@ fn to_interface(s: &[u8]) -> Setup
         6 => row(matches(s, 0, 0, 0, 2), Row::CheckClearStatus),
         7 => row(matches(s, 0, 0, 0, 24), Row::GetCapabilities),
         64 => row(matches(s, 0, 0, 0, 1), Row::IndicatorPulse),
-        128 => row(
-            matches(s, 2, 127, 0, 3),
-            Row::ReadStatusByte { tag: value },
-        ),
+        128 => row(matches(s, 2, 127, 0, 3), Row::ReadStatusByte { tag: value }),
         160 => row(matches(s, 0, 1, 0, 1), Row::RenControl { on: value }),
         161 => row(matches(s, 0, 0, 0, 1), Row::GoToLocal),
         162 => row(matches(s, 0, 0, 0, 1), Row::LocalLockout),

@@ -7,31 +7,24 @@ use Rattle.steps.proofs.out.absorbed.Tie as tie
 use Rattle.steps.proofs.out.absorbed.Reads as reads
 use Rattle.steps.proofs.out.absorbed.Lts as lts
 
--- src/out.rt:262:13
 cast-n : tie.Need-cast-n
 cast-n c = search needs
 
--- src/out.rt:265:19
 add-t5 : tie.Need-add-t5
 add-t5 c = search needs
 
--- src/out.rt:264:9
 returns : tie.Need-returns
 returns c = absorbed-whole _ _ _ (omega arith) (omega arith)
 
--- src/out.rt:275:15
 add-t6 : tie.Need-add-t6
 add-t6 c = search needs
 
--- src/out.rt:276:15
 sub-t7 : tie.Need-sub-t7
 sub-t7 c = search needs
 
--- src/out.rt:277:14
 add-t8 : tie.Need-add-t8
 add-t8 c = search needs
 
--- src/out.rt:258:1
 returns-2 : tie.Need-returns-2
 returns-2 c = absorbed-part _ _ _ refl (λ e. omega arith)
 

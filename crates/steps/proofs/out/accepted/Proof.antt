@@ -8,39 +8,30 @@ use Rattle.steps.proofs.out.message_accepted.Reads as message-accepted-
 use Rattle.steps.proofs.out.request_accepted.Reads as request-accepted-reads
 use Rattle.steps.proofs.out.trigger_accepted.Reads as trigger-accepted-reads
 
--- src/out.rt:465:27
 enum-known-h : tie.Need-enum-known-h
 enum-known-h c = search needs
 
--- src/out.rt:465:47
 message-accepted-requires : tie.Need-message-accepted-requires
 message-accepted-requires c κs = rw (c .before .h .given .1) at (c .before .before .before .pre)
 
--- src/out.rt:467:13
 enum-known-h-2 : tie.Need-enum-known-h-2
 enum-known-h-2 c = search needs
 
--- src/out.rt:471:14
 request-accepted-requires : tie.Need-request-accepted-requires
 request-accepted-requires c κs = search needs
 
--- src/out.rt:472:27
 enum-known-h-3 : tie.Need-enum-known-h-3
 enum-known-h-3 c = search needs
 
--- src/out.rt:472:36
 trigger-accepted-requires : tie.Need-trigger-accepted-requires
 trigger-accepted-requires c κs = search needs
 
--- src/out.rt:460:1
 returns : tie.Need-returns
 returns c = rw (c .message-accepted .ensures, c .before .before .h .given .1)
 
--- src/out.rt:460:1
 returns-2 : tie.Need-returns-2
 returns-2 c = rw (c .request-accepted .ensures, c .before .before .h2 .given .1)
 
--- src/out.rt:460:1
 returns-3 : tie.Need-returns-3
 returns-3 c = rw (c .trigger-accepted .ensures, c .before .before .h3 .given .1)
 

@@ -10,19 +10,15 @@ use Rattle.steps.proofs.out.alignment.Reads as reads
 use Rattle.steps.proofs.out.alignment.Lts as lts
 use Rattle.wire.proofs.numbers.all_zero.Reads as all-zero-reads
 
--- src/out.rt:60:9
 returns : tie.Need-returns
 returns c = pick-false _ _ _ _ (no-false _ (zeros-none _ _ _ (omega arith))) refl
 
--- src/out.rt:62:8
 all-zero-requires : tie.Need-all-zero-requires
 all-zero-requires c κs = search needs
 
--- src/out.rt:63:9
 returns-2 : tie.Need-returns-2
 returns-2 c = search picks depth 20
 
--- src/out.rt:55:1
 returns-3 : tie.Need-returns-3
 returns-3 c = search picks depth 20
 

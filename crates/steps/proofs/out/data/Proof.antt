@@ -6,17 +6,14 @@ use Rattle.steps.proofs.out.data.Tie as tie
 use Rattle.steps.proofs.out.data.Reads as reads
 use Rattle.steps.proofs.out.data.Lts as lts
 use Rattle.steps.proofs.out.absorbed.Reads as absorbed-reads
-use Rattle.steps.proofs.parts.with_out.Reads as with-out-reads
+use Rattle.state.proofs.parts.with_out.Reads as with-out-reads
 
--- src/out.rt:488:30
 absorbed-requires : tie.Need-absorbed-requires
 absorbed-requires c κs = search needs
 
--- src/out.rt:488:9
 with-out-requires : tie.Need-with-out-requires
 with-out-requires c κs = search needs
 
--- src/out.rt:483:1
 returns : tie.Need-returns
 unfolding planned
 returns c = rw (c .with-out .ensures, c .before .absorbed .ensures)

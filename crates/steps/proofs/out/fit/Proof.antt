@@ -6,47 +6,36 @@ use Rattle.steps.proofs.out.fit.Reads as reads
 use Rattle.steps.proofs.out.fit.Lts as lts
 use Rattle.steps.proofs.out.alignment.Reads as alignment-reads
 
--- src/out.rt:74:23
 add-due : tie.Need-add-due
 add-due c = search needs
 
--- src/out.rt:74:22
 mul-due : tie.Need-mul-due
 mul-due c = search needs
 
--- src/out.rt:74:15
 add-due-2 : tie.Need-add-due-2
 add-due-2 c = search needs
 
--- src/out.rt:76:9
 returns : tie.Need-returns
 returns c = search picks depth 20
 
--- src/out.rt:80:13
 returns-2 : tie.Need-returns-2
 returns-2 c = search picks depth 20
 
--- src/out.rt:82:29
 add-alignment : tie.Need-add-alignment
 add-alignment c = search needs
 
--- src/out.rt:82:9
 alignment-requires : tie.Need-alignment-requires
 alignment-requires c κs = search needs
 
--- src/out.rt:82:9
 returns-3 : tie.Need-returns-3
 returns-3 c = search picks depth 20
 
--- src/out.rt:84:18
 add-alignment-2 : tie.Need-add-alignment-2
 add-alignment-2 c = search needs
 
--- src/out.rt:84:5
 alignment-requires-2 : tie.Need-alignment-requires-2
 alignment-requires-2 c κs = search needs
 
--- src/out.rt:69:1
 returns-4 : tie.Need-returns-4
 returns-4 c = search picks depth 20
 

@@ -5,23 +5,19 @@ use Rattle.steps.proofs.out.halts.Statement.{statement}
 use Rattle.steps.proofs.out.halts.Tie as tie
 use Rattle.steps.proofs.out.halts.Reads as reads
 use Rattle.steps.proofs.out.halts.Lts as lts
-use Rattle.steps.proofs.parts.broken.Reads as broken-reads
+use Rattle.state.proofs.parts.broken.Reads as broken-reads
 use Rattle.steps.proofs.out.plain.Reads as plain-reads
-use Rattle.steps.proofs.parts.with_out.Reads as with-out-reads
+use Rattle.state.proofs.parts.with_out.Reads as with-out-reads
 
--- src/out.rt:480:24
 broken-requires : tie.Need-broken-requires
 broken-requires c κs = search needs
 
--- src/out.rt:480:11
 with-out-requires : tie.Need-with-out-requires
 with-out-requires c κs = search needs
 
--- src/out.rt:480:5
 plain-requires : tie.Need-plain-requires
 plain-requires c κs = search needs
 
--- src/out.rt:476:1
 returns : tie.Need-returns
 unfolding planned
 returns c = rw (c .plain .ensures, c .before .with-out .ensures, c .before .before .broken .ensures)

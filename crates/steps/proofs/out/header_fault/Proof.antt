@@ -12,51 +12,40 @@ use Rattle.steps.proofs.out.fit.Reads as fit-reads
 use Rattle.steps.proofs.out.out_of_turn.Reads as out-of-turn-reads
 use Rattle.steps.proofs.out.wide.Reads as wide-reads
 
--- src/out.rt:173:8
 out-of-turn-requires : tie.Need-out-of-turn-requires
 out-of-turn-requires c κs = search needs
 
--- src/out.rt:174:9
 returns : tie.Need-returns
 returns c = search picks depth 8
 
--- src/out.rt:176:9
 data-length-requires : tie.Need-data-length-requires
 data-length-requires c κs = search needs
 
--- src/out.rt:178:9
 returns-2 : tie.Need-returns-2
 returns-2 c =
     let a = c .before .before .before .before .before .before .before .args in
     header-long (a .st) (a .s .now) (a .h) (sym (c .before .before .before .out-of-turn .ensures) ∙ c .before .before .if1 .left) (let e = c .before .data-length .ensures in omega (arith, c .if2 .taken))
 
--- src/out.rt:180:13
 cast-n : tie.Need-cast-n
 cast-n c = search needs
 
--- src/out.rt:181:15
 wide-requires : tie.Need-wide-requires
 wide-requires c κs = search needs
 
--- src/out.rt:181:15
 add-if3 : tie.Need-add-if3
 add-if3 c = search needs
 
--- src/out.rt:182:9
 returns-3 : tie.Need-returns-3
 returns-3 c =
     let a = c .before .before .before .before .before .before .before .before .before .args in
     header-long (a .st) (a .s .now) (a .h) (sym (c .before .before .before .before .before .out-of-turn .ensures) ∙ c .before .before .before .before .if1 .left) (let e = c .before .before .before .data-length .ensures in omega (arith, c .if3 .taken, c .before .wide .ensures .0))
 
--- src/out.rt:184:9
 wide-requires-2 : tie.Need-wide-requires-2
 wide-requires-2 c κs = search needs
 
--- src/out.rt:184:5
 fit-requires : tie.Need-fit-requires
 fit-requires c κs = search needs
 
--- src/out.rt:168:1
 returns-4 : tie.Need-returns-4
 returns-4 c =
     let e = c .before .before .before .before .before .data-length .ensures in

@@ -13,52 +13,40 @@ use Rattle.steps.proofs.out.header_number.Reads as header-number-reads
 use Rattle.steps.proofs.out.least.Reads as least-reads
 use Rattle.wire.proofs.header.read_header.Reads as read-header-reads
 
--- src/out.rt:201:9
 read-header-requires : tie.Need-read-header-requires
 read-header-requires c κs = search needs
 
--- src/out.rt:202:22
 enum-known-r : tie.Need-enum-known-r
 enum-known-r c = search needs
 
--- src/out.rt:203:13
 enum-told : tie.Need-enum-told
 enum-told c = search needs
 
--- src/out.rt:203:13
 header-number-requires : tie.Need-header-number-requires
 header-number-requires c κs = search needs
 
--- src/out.rt:204:9
 returns : tie.Need-returns
 unfolding headerSays
 returns c = rw (c .header-number .ensures, ← (c .before .before .before .read-header .ensures), c .before .enum-told .given .1)
 
--- src/out.rt:206:9
 header-fault-requires : tie.Need-header-fault-requires
 header-fault-requires c κs = search needs
 
--- src/out.rt:208:9
 returns-2 : tie.Need-returns-2
 returns-2 c = rw (← (c .before .before .before .before .before .read-header .ensures), c .before .before .before .r .given .1) (header-halts _ _ _ _ (c .before .header-fault .ensures) (c .if1 .taken))
 
--- src/out.rt:210:16
 data-length-requires : tie.Need-data-length-requires
 data-length-requires c κs = search needs
 
--- src/out.rt:210:16
 cast-size : tie.Need-cast-size
 cast-size c = search needs
 
--- src/out.rt:211:29
 sub-least : tie.Need-sub-least
 sub-least c = good-lawful _ _ (sym (c .before .before .before .before .before .before .read-header .ensures) ∙ c .before .before .before .before .r .given .1) .0
 
--- src/out.rt:211:9
 least-requires : tie.Need-least-requires
 least-requires c κs = search needs
 
--- src/out.rt:198:1
 returns-3 : tie.Need-returns-3
 returns-3 c = rw (c .least .ensures, c .before .data-length .ensures, ← (c .before .before .before .before .before .before .before .read-header .ensures), c .before .before .before .before .before .r .given .1) (header-accepted _ _ _ _ (c .before .before .before .header-fault .ensures) (c .before .before .if1 .left))
 

@@ -6,21 +6,17 @@ use Rattle.steps.proofs.out.message_accepted.Tie as tie
 use Rattle.steps.proofs.out.message_accepted.Reads as reads
 use Rattle.steps.proofs.out.message_accepted.Lts as lts
 use Rattle.steps.proofs.out.absorbed.Reads as absorbed-reads
-use Rattle.steps.proofs.out.heard.Reads as heard-reads
+use Rattle.state.proofs.remote.heard.Reads as heard-reads
 
--- src/out.rt:369:15
 cast-t14 : tie.Need-cast-t14
 cast-t14 c = search needs
 
--- src/out.rt:376:9
 absorbed-requires : tie.Need-absorbed-requires
 absorbed-requires c κs = search needs
 
--- src/out.rt:378:9
 heard-requires : tie.Need-heard-requires
 heard-requires c κs = search needs
 
--- src/out.rt:362:1
 returns : tie.Need-returns
 unfolding accepted
 returns c = rw (c .before .before .heard .ensures, c .before .before .before .absorbed .ensures)

@@ -10,28 +10,22 @@ use Rattle.steps.proofs.out.fit.Reads as fit-reads
 use Rattle.steps.proofs.out.least.Reads as least-reads
 use Rattle.steps.proofs.out.wide.Reads as wide-reads
 
--- src/out.rt:92:9
 returns : tie.Need-returns
 unfolding more
 returns c = search picks depth 12
 
--- src/out.rt:96:9
 wide-requires : tie.Need-wide-requires
 wide-requires c κs = search needs
 
--- src/out.rt:97:9
 fit-requires : tie.Need-fit-requires
 fit-requires c κs = search needs
 
--- src/out.rt:99:9
 returns-2 : tie.Need-returns-2
 returns-2 c = more-halts _ _ _ _ (c .before .before .before .if1 .left) (rw (c .before .before .wide .ensures .0) at (c .before .fit .ensures)) (c .if2 .taken)
 
--- src/out.rt:102:16
 least-requires : tie.Need-least-requires
 least-requires c κs = search needs
 
--- src/out.rt:87:1
 returns-3 : tie.Need-returns-3
 returns-3 c = rw (c .least .ensures, c .before .before .before .wide .ensures .0) (more-data _ _ _ _ (c .before .before .before .before .if1 .left) (rw (c .before .before .before .wide .ensures .0) at (c .before .before .fit .ensures)) (c .before .if2 .left))
 

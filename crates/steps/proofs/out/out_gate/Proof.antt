@@ -5,37 +5,29 @@ use Rattle.steps.proofs.out.out_gate.Tie as tie
 use Rattle.steps.proofs.out.out_gate.Reads as reads
 use Rattle.steps.proofs.out.out_gate.Lts as lts
 use Rattle.steps.proofs.out.wide.Reads as wide-reads
-use Rattle.steps.proofs.sound.sound.Reads as sound-reads
+use Rattle.state.proofs.sound.sound.Reads as sound-reads
 
--- src/out.rt:220:8
 sound-requires : tie.Need-sound-requires
 sound-requires c κs = search needs
 
--- src/out.rt:222:13
 returns : tie.Need-returns
 returns c = search picks depth 20
 
--- src/out.rt:224:12
 wide-requires : tie.Need-wide-requires
 wide-requires c κs = search needs
 
--- src/out.rt:225:13
 returns-2 : tie.Need-returns-2
 returns-2 c = search picks depth 20
 
--- src/out.rt:228:13
 returns-3 : tie.Need-returns-3
 returns-3 c = search picks depth 20
 
--- src/out.rt:231:13
 returns-4 : tie.Need-returns-4
 returns-4 c = search picks depth 20
 
--- src/out.rt:233:9
 returns-5 : tie.Need-returns-5
 returns-5 c = search picks depth 20
 
--- src/out.rt:216:1
 returns-6 : tie.Need-returns-6
 returns-6 c = search picks depth 20
 

@@ -6,35 +6,27 @@ use Rattle.steps.proofs.out.out_of_turn.Lts as lts
 use Rattle.steps.proofs.out.request_out_of_turn.Reads as request-out-of-turn-reads
 use Rattle.steps.proofs.out.unfinished.Reads as unfinished-reads
 
--- src/out.rt:136:14
 enum-told : tie.Need-enum-told
 enum-told c = search needs
 
--- src/out.rt:142:14
 enum-told-2 : tie.Need-enum-told-2
 enum-told-2 c = search needs
 
--- src/out.rt:142:14
 request-out-of-turn-requires : tie.Need-request-out-of-turn-requires
 request-out-of-turn-requires c κs = search needs
 
--- src/out.rt:143:39
 enum-told-3 : tie.Need-enum-told-3
 enum-told-3 c = search needs
 
--- src/out.rt:143:39
 unfinished-requires : tie.Need-unfinished-requires
 unfinished-requires c κs = search needs
 
--- src/out.rt:128:1
 returns : tie.Need-returns
 returns c = rw (c .enum-told .given .1)
 
--- src/out.rt:128:1
 returns-2 : tie.Need-returns-2
 returns-2 c = rw (c .request-out-of-turn .ensures, c .before .enum-told2 .given .1)
 
--- src/out.rt:128:1
 returns-3 : tie.Need-returns-3
 returns-3 c = rw (c .unfinished .ensures, c .before .enum-told3 .given .1)
 

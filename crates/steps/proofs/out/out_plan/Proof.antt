@@ -9,15 +9,12 @@ use Rattle.steps.proofs.out.out_plan.Lts as lts
 use Rattle.steps.proofs.out.outcome.Reads as outcome-reads
 use Rattle.steps.proofs.out.planned.Reads as planned-reads
 
--- src/out.rt:515:9
 outcome-requires : tie.Need-outcome-requires
 outcome-requires c κs = search needs
 
--- src/out.rt:516:5
 planned-requires : tie.Need-planned-requires
 planned-requires c κs = rw (c .outcome .ensures) (outcome-can _ _)
 
--- src/out.rt:512:1
 returns : tie.Need-returns
 unfolding outPlan
 returns c = rw (c .planned .ensures, c .before .outcome .ensures) (refl, plan-room _ _)

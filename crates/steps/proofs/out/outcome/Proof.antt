@@ -9,35 +9,27 @@ use Rattle.steps.proofs.out.more.Reads as more-reads
 use Rattle.steps.proofs.out.out_gate.Reads as out-gate-reads
 use Rattle.steps.proofs.out.wide.Reads as wide-reads
 
--- src/out.rt:254:9
 out-gate-requires : tie.Need-out-gate-requires
 out-gate-requires c κs = search needs
 
--- src/out.rt:256:9
 returns : tie.Need-returns
 returns c = outcome-kept _ _ _ (c .before .out-gate .ensures) (c .if1 .taken)
 
--- src/out.rt:261:21
 wide-requires : tie.Need-wide-requires
 wide-requires c κs = search needs
 
--- src/out.rt:261:9
 more-requires : tie.Need-more-requires
 more-requires c κs = search needs
 
--- src/out.rt:261:9
 returns-2 : tie.Need-returns-2
 returns-2 c = outcome-more _ _ _ (c .before .before .before .before .before .out-gate .ensures) (c .before .before .before .before .if1 .left) _ (c .before .before .if2 .taken) (rw (c .before .wide .ensures .0) at (c .more .ensures))
 
--- src/out.rt:264:9
 returns-3 : tie.Need-returns-3
 returns-3 c = outcome-empty _ _ _ (c .before .before .before .before .out-gate .ensures) (c .before .before .before .if1 .left) (c .before .if2 .left) (c .if3 .taken)
 
--- src/out.rt:266:5
 header-says-requires : tie.Need-header-says-requires
 header-says-requires c κs = search needs
 
--- src/out.rt:251:1
 returns-4 : tie.Need-returns-4
 returns-4 c = outcome-header _ _ _ (c .before .before .before .before .before .out-gate .ensures) (c .before .before .before .before .if1 .left) _ (c .before .before .if2 .left) (c .before .if3 .left) (c .header-says .ensures)
 

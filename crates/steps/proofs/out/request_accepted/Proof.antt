@@ -9,19 +9,15 @@ use Rattle.steps.proofs.out.asked.Reads as asked-reads
 use Rattle.steps.proofs.out.plain.Reads as plain-reads
 use Rattle.steps.proofs.out.tagged.Reads as tagged-reads
 
--- src/out.rt:413:9
 tagged-requires : tie.Need-tagged-requires
 tagged-requires c κs = search needs
 
--- src/out.rt:414:9
 asked-requires : tie.Need-asked-requires
 asked-requires c κs = search needs
 
--- src/out.rt:431:5
 plain-requires : tie.Need-plain-requires
 plain-requires c κs = search needs
 
--- src/out.rt:408:1
 returns : tie.Need-returns
 unfolding accepted
 returns c = rw (c .plain .ensures, c .before .before .asked .ensures, c .before .before .before .tagged .ensures)

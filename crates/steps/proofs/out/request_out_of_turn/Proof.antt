@@ -7,15 +7,12 @@ use Rattle.steps.proofs.out.request_out_of_turn.Reads as reads
 use Rattle.steps.proofs.out.request_out_of_turn.Lts as lts
 use Rattle.steps.proofs.out.unfinished.Reads as unfinished-reads
 
--- src/out.rt:122:9
 returns : tie.Need-returns
 returns c = search picks depth 8
 
--- src/out.rt:124:5
 unfinished-requires : tie.Need-unfinished-requires
 unfinished-requires c κs = search needs
 
--- src/out.rt:118:1
 returns-2 : tie.Need-returns-2
 returns-2 c = rw (c .unfinished .ensures) (sym (or-false _ _ (search tests)))
 

@@ -6,17 +6,14 @@ use Rattle.steps.proofs.out.trigger_accepted.Tie as tie
 use Rattle.steps.proofs.out.trigger_accepted.Reads as reads
 use Rattle.steps.proofs.out.trigger_accepted.Lts as lts
 use Rattle.steps.proofs.out.tagged.Reads as tagged-reads
-use Rattle.steps.proofs.parts.with_out.Reads as with-out-reads
+use Rattle.state.proofs.parts.with_out.Reads as with-out-reads
 
--- src/out.rt:450:30
 tagged-requires : tie.Need-tagged-requires
 tagged-requires c κs = search needs
 
--- src/out.rt:450:9
 with-out-requires : tie.Need-with-out-requires
 with-out-requires c κs = search needs
 
--- src/out.rt:446:1
 returns : tie.Need-returns
 unfolding accepted
 returns c = rw (c .with-out .ensures, c .before .tagged .ensures)

@@ -4,15 +4,12 @@ use Rattle.steps.proofs.out.unfinished.Tie as tie
 use Rattle.steps.proofs.out.unfinished.Reads as reads
 use Rattle.steps.proofs.out.unfinished.Lts as lts
 
--- src/out.rt:110:9
 returns : tie.Need-returns
 returns c = search picks depth 20
 
--- src/out.rt:113:9
 returns-2 : tie.Need-returns-2
 returns-2 c = search picks depth 20
 
--- src/out.rt:106:1
 returns-3 : tie.Need-returns-3
 returns-3 c = search picks depth 20
 

@@ -11,27 +11,22 @@ use Rattle.steps.proofs.out.out_plan.Reads as out-plan-reads
 use Rattle.unit.proofs.packet.wide.Reads as wide-reads
 use Rattle.wire.proofs.copies.copy_in.Reads as copy-in-reads
 
--- src/packet.rt:25:9
 out-plan-requires : tie.Need-out-plan-requires
 out-plan-requires c κs = search needs
 
--- src/packet.rt:26:9
 wide-requires : tie.Need-wide-requires
 wide-requires c κs = search needs
 
--- src/packet.rt:30:9
 copy-in-requires : tie.Need-copy-in-requires
 copy-in-requires c κs =
     let r = c .before .before .before .out-plan .ensures .1 in
     (rw (c .before .before .wide .ensures) (omega (arith, r .1 (c .before .if1 .taken))), r .0)
 
--- src/packet.rt:31:9
 returns : tie.Need-returns
 returns c = (c .before .before .before .before .out-plan .ensures .0, rw (c .before .before .before .wide .ensures) at (c .copy-in .ensures))
 
--- src/packet.rt:22:1
 returns-2 : tie.Need-returns-2
-returns-2 c = 
+returns-2 c =
     let a = c .before .before .before .before .args in
     (c .before .before .out-plan .ensures .0, nothing-pasted (a .message .now) (a .st .small .bulkout .held) _ _ (c .if1 .left))
 

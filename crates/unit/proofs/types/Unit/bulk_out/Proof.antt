@@ -6,11 +6,9 @@ use Rattle.unit.proofs.types.Unit.bulk_out.Reads as reads
 use Rattle.unit.proofs.types.Unit.bulk_out.Lts as lts
 use Rattle.unit.proofs.packet.packet_step.Reads as packet-step-reads
 
--- src/packet.rt:49:13
 packet-step-requires : tie.Need-packet-step-requires
 packet-step-requires c κs = search needs
 
--- src/packet.rt:38:5
 returns : tie.Need-returns
 returns c = let e = c .before .before .before .before .packet-step .ensures in stepped _ _ _ _ (e .0) (e .1)
 

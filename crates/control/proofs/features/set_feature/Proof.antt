@@ -1,0 +1,58 @@
+use Rattle.port.specs.Rows.{answerRow}
+use borrow.Author.Needs.{needs}
+use Rattle.control.proofs.features.set_feature.Statement.{statement}
+use Rattle.control.proofs.features.set_feature.Tie as tie
+use Rattle.control.proofs.features.set_feature.Reads as reads
+use Rattle.control.proofs.features.set_feature.Lts as lts
+use Rattle.state.proofs.parts.broken.Reads as broken-reads
+use Rattle.state.proofs.parts.with_in.Reads as with-in-reads
+use Rattle.state.proofs.parts.with_in_halted.Reads as with-in-halted-reads
+use Rattle.state.proofs.parts.with_out.Reads as with-out-reads
+use Rattle.control.proofs.says.says_0.Reads as says-0-reads
+
+enum-told : tie.Need-enum-told
+enum-told c = search needs
+
+broken-requires : tie.Need-broken-requires
+broken-requires c κs = search needs
+
+with-out-requires : tie.Need-with-out-requires
+with-out-requires c κs = search needs
+
+says-0-requires : tie.Need-says-0-requires
+says-0-requires c κs = search needs
+
+enum-told-2 : tie.Need-enum-told-2
+enum-told-2 c = search needs
+
+with-in-halted-requires : tie.Need-with-in-halted-requires
+with-in-halted-requires c κs = search needs
+
+with-in-requires : tie.Need-with-in-requires
+with-in-requires c κs = search needs
+
+says-0-requires-2 : tie.Need-says-0-requires-2
+says-0-requires-2 c κs = search needs
+
+returns : tie.Need-returns
+unfolding answerRow
+returns c = rw (c .says-0 .ensures, c .before .with-out .ensures, c .before .before .broken .ensures, c .before .before .before .before .enum-told .given .1)
+
+returns-2 : tie.Need-returns-2
+unfolding answerRow
+returns-2 c = rw (c .says-02 .ensures, c .before .with-in .ensures, c .before .before .with-in-halted .ensures, c .before .before .before .before .enum-told2 .given .1)
+
+pub set-feature-spec : {M : Type 1} → statement M
+set-feature-spec =
+    tie.close
+    (tie.spec
+    enum-told
+    broken-requires
+    with-out-requires
+    says-0-requires
+    enum-told-2
+    with-in-halted-requires
+    with-in-requires
+    says-0-requires-2
+    returns
+    returns-2)
