@@ -1,11 +1,19 @@
 -- A step over the small state with one store is the call on the whole unit, whoever carries it out.
 -- Assumes nothing.
 use Prim.Native.Nat.{ℕ}
-use mathlib.Core.Path.{_≡_, ap, _∙_}
+use mathlib.Core.Path.{_≡_, refl, ap, _∙_}
+use mathlib.Core.Bool.{true, false}
 use mathlib.Core.List.{List}
 use lib.ListN.{drop}
 use lib.Seq.{paste, paste-zero}
-use Rattle.port.specs.Parts.{outOf}
+use Rattle.rules.specs.Choice.{pick}
+use Rattle.rules.specs.Answers.{DONE, WRONG-SIZE}
+use Rattle.rules.proofs.Choice.{pick-true, pick-false}
+use Rattle.wire.specs.Header.{OFF}
+use Rattle.port.specs.Parts.{FULL-SPEED, isSize, outOf}
+use Rattle.port.specs.In.{number}
+use Rattle.port.specs.Device.{made, powerOn}
+use Rattle.port.specs.declared.types.Setting.{Setting}
 use Rattle.port.specs.Out.{outPlan}
 use Rattle.port.specs.declared.types.Plan.{Plan}
 use Rattle.port.specs.Calls.{bulkOut}
@@ -36,3 +44,12 @@ stepped u s plan m e f = λ i. record {
   number = e i .number;
   tells = e i .tells;
 }
+
+-- power-on, with a size that there is and with another
+pub powered : (setting : Setting) → isSize (setting .packet) ≡ true → doneOf (record { unit = made setting OFF; answer = number DONE }) ≡ doneOf (powerOn setting)
+unfolding powerOn
+powered setting e = ap doneOf (pick-true _ _ _ _ e refl)
+
+pub size-refused : (setting : Setting) → isSize (setting .packet) ≡ false → doneOf (record { unit = made (record { packet = FULL-SPEED }) OFF; answer = number WRONG-SIZE }) ≡ doneOf (powerOn setting)
+unfolding powerOn
+size-refused setting e = ap doneOf (pick-false _ _ _ _ e refl)
