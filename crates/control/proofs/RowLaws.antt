@@ -6,13 +6,16 @@ use mathlib.Core.Bool.{Bool, true, false}
 use mathlib.Core.List.{List, [], _∷_}
 use borrow.Author.Tests.{eq-eqb, ne-eqb}
 use Rattle.rules.specs.Choice.{pick, first}
-use Rattle.rules.specs.Answers.{SUCCESS, PENDING, SPLIT-NOT-IN-PROGRESS, SPLIT-IN-PROGRESS}
+use Rattle.rules.specs.Answers.{SUCCESS, PENDING, SPLIT-NOT-IN-PROGRESS, SPLIT-IN-PROGRESS, NO-ROW}
 use Rattle.rules.proofs.Choice.{at-true, at-false, no-true, no-false, pick-true, pick-false, refuses, passes}
 use Rattle.wire.specs.Header.{D0, OFF, ON}
 use Rattle.port.specs.Parts.{CLOSED, OWED, isOpenOut, isOpenIn, isOwed, isClear, keepsHalt, outOf, inOf, withPort, withOut, withIn, withSplit, withRen, withInHalted, emptyOut, emptyIn, broken, haltedOut, shut}
 use Rattle.port.specs.Remote.{localNow}
-use Rattle.port.specs.In.{Said, says}
-use Rattle.port.specs.Rows.{abortRules, inTag, initiateAbortOut, initiateAbortIn, abortStatus, abortInStatus, clearing, initiateClear, checkClear, clearFeatureOut, clearFeatureIn, renControl}
+use Rattle.port.specs.In.{Said, says, refuse}
+use Rattle.port.specs.Rows.{abortRules, inTag, initiateAbortOut, initiateAbortIn, abortStatus, abortInStatus, clearing, initiateClear, checkClear, clearFeatureOut, clearFeatureIn, renControl, answerRow}
+use Rattle.port.specs.Calls.{served}
+use Rattle.wire.specs.declared.types.Row.{Row}
+use Rattle.wire.specs.declared.types.Setup.the-variants.{Asks}
 use Rattle.port.specs.declared.types.BulkIn.{BulkIn}
 use Rattle.port.specs.declared.types.Split.the-variants.{None, AbortOut, AbortIn, Clear}
 use Rattle.port.specs.declared.types.State.{State}
@@ -103,3 +106,13 @@ module _ (b : BulkIn) where
   pub closed-kept : isOwed b ≡ false → isOpenIn b ≡ false → withInHalted b OFF ≡ clearFeatureIn b
   unfolding clearFeatureIn
   closed-kept e f = pick-false _ _ _ _ e (pick-false _ _ _ _ f refl)
+
+-- a row is served by a configured unit alone
+module _ (st : State) (row : Row) where
+  pub row-served : st .small .port .configured ≡ 1 → answerRow st row ≡ served st (Asks row)
+  unfolding served
+  row-served e = pick-true _ _ _ _ (eq-eqb _ 1 e) refl
+
+  pub row-unserved : (st .small .port .configured ≡ 1 → ⊥) → refuse st NO-ROW ≡ served st (Asks row)
+  unfolding served
+  row-unserved e = pick-false _ _ _ _ (ne-eqb _ 1 e) refl

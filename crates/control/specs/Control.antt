@@ -1,4 +1,5 @@
--- The answer of a setup row in code: the state after it, what it tells, and its bytes at the front of an array of 24 that is 0 elsewhere.
+-- The answer of a setup packet in code: the state after it, the number, what it tells, and its bytes at the front of an array of 24 that is 0
+-- elsewhere.
 -- Assumes nothing.
 use Prim.Native.Nat.{ℕ}
 use mathlib.Core.List.{List}
@@ -11,6 +12,7 @@ use Rattle.control.specs.declared.types.Control.{Control}
 abbrev pub controlOf : Said → Control
 controlOf r = record {
   state = r .state;
+  number = r .answer .number;
   tells = r .answer .tells;
   len = length (r .answer .bytes);
   bytes = into (r .answer .bytes) (replicate CONTROL 0);

@@ -12,6 +12,7 @@ use crate::says::says_1;
 use crate::says::says_3;
 use crate::types::Control;
 use port::types::State;
+use rules::DONE;
 use rules::SUCCESS;
 use rules::TELLS_NOTHING;
 use rules::TELLS_PULSE;
@@ -58,6 +59,7 @@ fn get_capabilities(state: State) -> Control
     bytes[15] = 3;
     Control {
         state,
+        number: DONE,
         tells: TELLS_NOTHING,
         len: 24,
         bytes,
@@ -71,6 +73,7 @@ fn indicator_pulse(state: State) -> Control
     bytes[0] = SUCCESS;
     Control {
         state,
+        number: DONE,
         tells: TELLS_PULSE,
         len: 1,
         bytes,

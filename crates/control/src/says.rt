@@ -1,6 +1,7 @@
 // Answers by their bytes.
 use crate::types::Control;
 use port::types::State;
+use rules::DONE;
 use rules::TELLS_NOTHING;
 use wire::numbers::bytes_of;
 ghost use mathlib.Core.Path.{_≡_};
@@ -16,6 +17,7 @@ pub fn says_0(state: State) -> Control
 {
     Control {
         state,
+        number: DONE,
         tells: TELLS_NOTHING,
         len: 0,
         bytes: [0; 24],
@@ -29,6 +31,7 @@ pub fn says_1(state: State, a: u8) -> Control
     bytes[0] = a;
     Control {
         state,
+        number: DONE,
         tells: TELLS_NOTHING,
         len: 1,
         bytes,
@@ -43,6 +46,7 @@ pub fn says_2(state: State, a: u8, b: u8) -> Control
     bytes[1] = b;
     Control {
         state,
+        number: DONE,
         tells: TELLS_NOTHING,
         len: 2,
         bytes,
@@ -58,6 +62,7 @@ pub fn says_3(state: State, a: u8, b: u8, d: u8) -> Control
     bytes[2] = d;
     Control {
         state,
+        number: DONE,
         tells: TELLS_NOTHING,
         len: 3,
         bytes,
@@ -78,6 +83,7 @@ pub fn says_abort(state: State, status: u8, d0: u8, count: u16) -> Control
     bytes[7] = n[3];
     Control {
         state,
+        number: DONE,
         tells: TELLS_NOTHING,
         len: 8,
         bytes,

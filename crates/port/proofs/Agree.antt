@@ -27,16 +27,17 @@ use Rattle.wire.specs.declared.types.Setup.the-variants.{Configure, Asks, NoRow
 use Rattle.port.specs.Parts.{STORE, CLOSED, ASKED, OWED, on, isOpenOut, isOpenIn, isOwed, hasReply, keepsHalt, isClear, packetSize, outOf, inOf, isConfigured, withPort, withOut, withIn, withSplit, withRemote, withRen, withStatus, withInHalted, emptyOut, emptyIn, broken, haltedOut, shut}
 use Rattle.port.specs.Sound.{sound}
 use Rattle.port.specs.Remote.{toLocal, lockedOut, withRenOn, byPanel, localNow}
-use Rattle.port.specs.Out.{more, dataLength, headerRules, headerSays, outcome, absorbed, opened, accepted, planned, outPlan}
+use Rattle.port.specs.Out.{plain, more, dataLength, headerRules, headerSays, outcome, absorbed, opened, accepted, planned, outPlan}
 use Rattle.port.specs.In.{Answer, Said, number, refuse, says, nothingToSend, fixed, header, started, toGo, gone, send, poll}
 use Rattle.port.specs.Rows.{abortRules, inTag, abortStatus, wrongSplit, initiateAbortOut, initiateAbortIn, checkAbortOut, checkAbortIn, clearing, initiateClear, checkClear, clearFeatureOut, clearFeatureIn, answerRow}
 use Rattle.port.specs.Device.{Device, Result, isSound, withState, heldOf, unsentOf, made}
-use Rattle.port.specs.Calls.{refused, done, said, carriedOut, bulkOut, bulkIn, answered, setup, released, take-message, offered, offer, thermostatRules, busRules, setStatus, panel, busReset, suspend}
+use Rattle.port.specs.Calls.{refused, said, carriedOut, bulkOut, bulkIn, served, wiped, answered, setup, released, taking, take-message, offered, offerPlan, withReply, offer, thermostatRules, busRules, statusSet, setStatus, returned, panel, busReset, suspended, suspend}
 use Rattle.port.specs.Step.{Call, setup-packet, out-packet, in-poll, take-into, offer-reply, set-status, front-panel, bus-reset, bus-suspend, step}
 use Rattle.port.specs.Live.{Live, atFront, live, alive}
 use Rattle.port.specs.Laws.{Stored, LiveAgrees}
 use Rattle.port.specs.declared.types.BulkOut.{BulkOut}
 use Rattle.port.specs.declared.types.BulkIn.{BulkIn}
+use Rattle.port.specs.declared.types.Plan.{Plan}
 use Rattle.port.specs.declared.types.Split.{Split}
 use Rattle.port.specs.declared.types.Split.the-variants.{None, AbortOut, AbortIn, Clear}
 use Rattle.port.specs.declared.types.State.{State}
@@ -45,7 +46,7 @@ use Rattle.port.specs.declared.types.Outcome.the-variants.{Keep, Halt, D
 use Rattle.port.proofs.Soundness.{Sound, sound-of, sound-to}
 use Rattle.port.proofs.Ways.{Passed, Continues, Heads, outcome-ways}
 use Rattle.port.proofs.KeepsOut.{out-held}
-use Rattle.port.proofs.Calls.{kept, halted}
+use Rattle.port.proofs.Calls.{kept, unstored, halted}
 use Rattle.port.proofs.Alive.{held-alive, unsent-alive, alive-sound, alive-stored, Alike, alike, twin, same-message, same-reply, all-reply, agree, still}
 
 -- the first line of every list, where it does not apply to either
@@ -206,22 +207,22 @@ module _ (u : Device) (stored : Stored u) (h : Sound (u .state)) where
   row-agrees (GetStatus Out) = kept-both _
   row-agrees (GetStatus In) = kept-both _
 
-  configured-agrees : (value : ℕ) → live (made (u .state .small .port .setting) value) ≡ live (made (w .state .small .port .setting) value)
-  unfolding alive live
-  configured-agrees value = refl
+  configured-agrees : (value : ℕ) → Alike (answered u (Configure value)) (answered w (Configure value))
+  unfolding answered served wiped alive live
+  configured-agrees value = alike refl refl
 
   served-agrees : (row : Row) → Alike (answered u (Asks row)) (answered w (Asks row))
-  unfolding answered alive live
-  served-agrees row = pick-both Alike (isConfigured (u .state)) _ _ _ _ (λ _. row-agrees row) (λ _. kept-both _)
+  unfolding answered served wiped alive live
+  served-agrees row = pick-both Rows (isConfigured (u .state)) _ _ _ _ (λ _. row-agrees row) (λ _. kept-both _)
 
   setup-agrees : (s : List ℕ) (room : ℕ) → Alike (setup u s room) (setup w s room)
-  unfolding setup answered
+  unfolding setup answered served wiped
   setup-agrees s room =
       strip Alike (isSound u) (isSound w) _ _ _ _ sound-u sound-w
       (pick-both Alike (length s ≠ᵇ SETUP or room <ᵇ CONTROL) _ _ _ _ (λ _. kept-both _) (λ _. by (readSetup s)))
     where
       by : (x : Setup) → Alike (answered u x) (answered w x)
-      by (Configure value) = alike refl (configured-agrees value)
+      by (Configure value) = configured-agrees value
       by (Asks row) = served-agrees row
       by NoRow = kept-both _
 
@@ -355,12 +356,12 @@ module _ (u : Device) (stored : Stored u) (h : Sound (u .state)) where
   -- ** the thermostat's calls and the bus's
 
   take-agrees : (room : ℕ) → Alike (take-message u room) (take-message w room)
-  unfolding take-message released alive live
+  unfolding take-message taking released alive live
   take-agrees room =
-      strip Alike (isSound u) (isSound w) _ _ _ _ sound-u sound-w
-      (pick-both Alike (no (isConfigured (u .state))) _ _ _ _ (λ _. kept-both _)
-      (λ _. pick-both Alike (no (on (outOf (u .state) .ready))) _ _ _ _ (λ _. kept-both _)
-      (λ _. pick-both Alike (room <ᵇ outOf (u .state) .held) _ _ _ _ (λ _. kept-both _)
+      strip Rows (isSound u) (isSound w) _ _ _ _ sound-u sound-w
+      (pick-both Rows (no (isConfigured (u .state))) _ _ _ _ (λ _. kept-both _)
+      (λ _. pick-both Rows (no (on (outOf (u .state) .ready))) _ _ _ _ (λ _. kept-both _)
+      (λ _. pick-both Rows (room <ᵇ outOf (u .state) .held) _ _ _ _ (λ _. kept-both _)
       (λ _. alike (λ i. record { number = DONE; bytes = sym (held-alive u stored h) i; tells = TELLS-NOTHING })
       (agree u stored h (withOut (u .state) (released (outOf (u .state)))) (withOut (w .state) (released (outOf (w .state)))) refl refl (all-reply u stored h))))))
 
@@ -369,30 +370,33 @@ module _ (u : Device) (stored : Stored u) (h : Sound (u .state)) where
   front d bytes e = subst (λ (m : ℕ). take m (paste d 0 bytes (length bytes)) ≡ take (length bytes) bytes) (zero-add (length bytes)) (take-paste d 0 bytes (length bytes) (omega arith) (omega arith))
 
   offer-agrees : (bytes : List ℕ) → Alike (offer u bytes) (offer w bytes)
-  unfolding offer offered alive live
+  unfolding offer offerPlan offered alive live
   offer-agrees bytes =
-      strip Alike (isSound u) (isSound w) _ _ _ _ sound-u sound-w
-      (pick-both Alike (no (isConfigured (u .state))) _ _ _ _ (λ _. kept-both _)
-      (λ _. pick-both Alike (length bytes =ᵇ 0 or STORE <ᵇ length bytes) _ _ _ _ (λ _. kept-both _)
-      (λ e. pick-both Alike (hasReply (inOf (u .state)) or isClear (u .state .split)) _ _ _ _ (λ _. kept-both _)
+      strip Plans (isSound u) (isSound w) _ _ _ _ sound-u sound-w
+      (pick-both Plans (no (isConfigured (u .state))) _ _ _ _ (λ _. unstored-agrees _)
+      (λ _. pick-both Plans (length bytes =ᵇ 0 or STORE <ᵇ length bytes) _ _ _ _ (λ _. unstored-agrees _)
+      (λ e. pick-both Plans (hasReply (inOf (u .state)) or isClear (u .state .split)) _ _ _ _ (λ _. unstored-agrees _)
       (λ _. (alike refl (λ i. record {
         state = withIn (u .state) (offered (inOf (u .state)) (length bytes));
         message = whole-message i;
         reply = (front (u .reply) bytes (fits (u .reply) e (stored .reply)) ∙ sym (front (w .reply) bytes (fits (w .reply) e (alive-stored u stored h .reply)))) i;
       }))))))
     where
+      Plans : Plan → Plan → Type 0
+      Plans p q = Alike (withReply u bytes p) (withReply w bytes q)
+
+      unstored-agrees : (n : ℕ) → Plans (plain (u .state) n) (plain (w .state) n)
+      unstored-agrees n = alike-by (unstored u bytes n) (unstored w bytes n) (kept-both _)
+
       fits : (d : List ℕ) → (length bytes =ᵇ 0 or STORE <ᵇ length bytes) ≡ false → length d ≡ STORE → length bytes ≤ length d
       fits d e l = let b : length bytes ≤ STORE = ltb-false _ _ (none-right (length bytes =ᵇ 0) _ e) in omega arith
 
-  behind-2 : (c d : Result) → Alike c d → Alike (decide (refused u) (thermostatRules u) c) (decide (refused w) (thermostatRules w) d)
+  behind-2 : (c d : Said) → Rows c d → Rows (decide (refuse (u .state)) (thermostatRules (u .state)) c) (decide (refuse (w .state)) (thermostatRules (w .state)) d)
   unfolding alive live
-  behind-2 c d a = strip Alike (isSound u) (isSound w) _ _ _ _ sound-u sound-w (pick-both Alike (no (isConfigured (u .state))) _ _ _ _ (λ _. kept-both _) (λ _. a))
-
-  behind-1 : (c d : Result) → Alike c d → Alike (decide (refused u) (busRules u) c) (decide (refused w) (busRules w) d)
-  behind-1 c d a = strip Alike (isSound u) (isSound w) _ _ _ _ sound-u sound-w a
+  behind-2 c d a = strip Rows (isSound u) (isSound w) _ _ _ _ sound-u sound-w (pick-both Rows (no (isConfigured (u .state))) _ _ _ _ (λ _. kept-both _) (λ _. a))
 
   pub call-agrees : (c : Call) → Alike (step u c) (step w c)
-  unfolding step setStatus panel busReset suspend answered localNow alive live
+  unfolding step setStatus statusSet panel returned busReset suspend suspended localNow alive live
   call-agrees (setup-packet s room) = setup-agrees s room
   call-agrees (out-packet s) = out-agrees s
   call-agrees (in-poll room) = poll-agrees room
@@ -400,8 +404,8 @@ module _ (u : Device) (stored : Stored u) (h : Sound (u .state)) where
   call-agrees (offer-reply bytes) = offer-agrees bytes
   call-agrees (set-status status) = behind-2 _ _ (alike refl (beside-agrees (λ (st : State). withPort st (withStatus (st .small .port) status)) refl refl refl refl refl))
   call-agrees front-panel = behind-2 _ _ (alike refl (beside-agrees (λ (st : State). withRemote st (byPanel (st .remote))) refl refl refl refl refl))
-  call-agrees bus-reset = behind-1 _ _ (alike refl (configured-agrees OFF))
-  call-agrees bus-suspend = behind-1 _ _ (alike refl (beside-agrees localNow refl refl refl refl refl))
+  call-agrees bus-reset = strip Alike (isSound u) (isSound w) _ _ _ _ sound-u sound-w (configured-agrees OFF)
+  call-agrees bus-suspend = strip Rows (isSound u) (isSound w) _ _ _ _ sound-u sound-w (alike refl (beside-agrees localNow refl refl refl refl refl))
 
 -- THE LAW
 pub live-agrees : LiveAgrees step

@@ -7,6 +7,7 @@ use mathlib.Core.List.{List, [], _∷_}
 use mathlib.Core.Logic.{_⊎_, inl, inr, ⊎-elim}
 use native.Mathlib.Omega.{arith}
 use borrow.Author.Tests.{eqb-true, ne-eqb, eq-eqb}
+use lib.ListN.{length}
 use Rattle.rules.specs.Choice.{_=ᵇ_, no, _or_, _and_, pick, decide}
 use Rattle.rules.specs.Answers.{DONE, UNSOUND, WRONG-SIZE, NO-ROW, SUCCESS, Leaves, as-ruled, unchanged, out-halted, leaves}
 use Rattle.rules.proofs.Choice.{pick-all, decide-all, at-true, at-false, eq-neb, and-left, and-right, both-right, either}
@@ -22,7 +23,7 @@ use Rattle.port.specs.Parts.{on, isOpenOut, unfinished, isClear, outOf, 
 use Rattle.port.specs.In.{Answer, Said, says}
 use Rattle.port.specs.Rows.{abortRules, initiateAbortOut, clearing, initiateClear, clearFeatureOut, answerRow}
 use Rattle.port.specs.Device.{Device, Result, withState, made}
-use Rattle.port.specs.Calls.{refused, setupRules, answered, setup, busRules, busReset}
+use Rattle.port.specs.Calls.{refused, said, setupRules, served, wiped, answered, setup, busRules, busReset}
 use Rattle.port.specs.Step.{Call, setup-packet, out-packet, in-poll, take-into, offer-reply, set-status, front-panel, bus-reset, bus-suspend, step}
 use Rattle.port.specs.Breaks.{halting, breaksRow, breaksSetup, isBreak}
 use Rattle.port.specs.Laws.{LeftAs, BreakDrops}
@@ -86,9 +87,9 @@ refusal : (u : Device) (x : Setup) (n : ℕ) → (n =ᵇ DONE) ≡ false → Set
 refusal u x n e b = absurd (false≢true (sym (and-left _ _ e) ∙ b))
 
 setup-drops : (u : Device) (x : Setup) → SetupDrops x (answered u x)
-unfolding answered made fresh
+unfolding answered served wiped fresh
 setup-drops u (Configure value) = λ _. empty-dropped OFF 0
-setup-drops u (Asks row) = pick-all (SetupDrops (Asks row)) (isConfigured (u .state)) _ _ (λ _ b. row-drops (u .state) row (both-right _ _ b)) (λ _. refusal u (Asks row) NO-ROW refl)
+setup-drops u (Asks row) = pick-all (λ (r : Said). SetupDrops (Asks row) (said u r)) (isConfigured (u .state)) _ _ (λ _ b. row-drops (u .state) row (both-right _ _ b)) (λ _. refusal u (Asks row) NO-ROW refl)
 setup-drops u NoRow = refusal u NoRow NO-ROW refl
 
 -- a number that halts leaves a halted unit
@@ -102,9 +103,9 @@ unfolding leaves
 halt-number n e z = false≢true (sym (ap (λ (m : ℕ). halting (leaves m)) z) ∙ e)
 
 pub break-drops : BreakDrops step
-unfolding step isBreak setup busReset answered made fresh
+unfolding step isBreak setup busReset answered served wiped fresh
 break-drops u (setup-packet s room) h =
-    decide-all (SetupDrops (readSetup s)) (refused u) (setupRules u s room) _ (refusal u (readSetup s) UNSOUND refl, (refusal u (readSetup s) WRONG-SIZE refl, tt)) (λ _. setup-drops u (readSetup s))
+    decide-all (SetupDrops (readSetup s)) (refused u) (setupRules (u .state) (length s) room) _ (refusal u (readSetup s) UNSOUND refl, (refusal u (readSetup s) WRONG-SIZE refl, tt)) (λ _. setup-drops u (readSetup s))
 break-drops u (out-packet s) h = λ e. halt-drops u (step u (out-packet s)) (leaves (step u (out-packet s) .answer .number)) (leaves-table u (out-packet s) (halt-number _ e)) e
 break-drops u (in-poll room) h = λ e. absurd (false≢true e)
 break-drops u (take-into room) h = λ e. absurd (false≢true e)
@@ -112,5 +113,5 @@ break-drops u (offer-reply bytes) h = λ e. absurd (false≢true e)
 break-drops u (set-status status) h = λ e. absurd (false≢true e)
 break-drops u front-panel h = λ e. absurd (false≢true e)
 break-drops u bus-reset h =
-    decide-all (λ (r : Result). (r .answer .number =ᵇ DONE) ≡ true → Dropped (outOf (r .unit .state))) (refused u) (busRules u) _ (λ e. absurd (false≢true e), tt) (λ _ _. empty-dropped OFF 0)
+    decide-all (λ (r : Result). (r .answer .number =ᵇ DONE) ≡ true → Dropped (outOf (r .unit .state))) (refused u) (busRules (u .state)) _ (λ e. absurd (false≢true e), tt) (λ _ _. empty-dropped OFF 0)
 break-drops u bus-suspend h = λ e. absurd (false≢true e)

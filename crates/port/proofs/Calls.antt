@@ -27,11 +27,11 @@ use Rattle.wire.proofs.SetupLaws.{Configures, setup-configures}
 use Rattle.port.specs.Parts.{STORE, FULL-SPEED, isSize, CLOSED, OWED, on, isOwed, isOpenOut, isOpenIn, hasReply, isClear, outOf, inOf, isConfigured, withOut, withIn, withRemote, haltedOut, fresh, shut}
 use Rattle.port.specs.Sound.{sound}
 use Rattle.port.specs.Remote.{localNow}
-use Rattle.port.specs.Out.{outcome, planned, accepted, outPlan, dataLength}
+use Rattle.port.specs.Out.{plain, outcome, planned, accepted, outPlan, dataLength}
 use Rattle.port.specs.In.{Answer, Said, number, refuse, says, inRules, nothingToSend, send, poll}
 use Rattle.port.specs.Rows.{abortRules, inTag, initiateAbortOut, initiateAbortIn, checkAbortOut, checkAbortIn, initiateClear, checkClear, answerRow}
 use Rattle.port.specs.Device.{Device, Result, isSound, withState, heldOf, unsentOf, zeroed, made, powerOn}
-use Rattle.port.specs.Calls.{refused, done, said, carriedOut, bulkOut, bulkIn, setupRules, answered, setup, takeRules, released, take-message, offerRules, offered, offer, thermostatRules, setStatus, panel, busRules, busReset, suspend}
+use Rattle.port.specs.Calls.{refused, said, carriedOut, bulkOut, bulkIn, setupRules, served, wiped, answered, setup, takeRules, released, taking, take-message, offerRules, offered, offerPlan, withReply, offer, thermostatRules, statusSet, setStatus, returned, panel, busRules, busReset, suspended, suspend}
 use Rattle.port.specs.Step.{Call, setup-packet, out-packet, in-poll, take-into, offer-reply, set-status, front-panel, bus-reset, bus-suspend, step}
 use Rattle.port.specs.Lists.{bulk, faults, own, ownList}
 use Rattle.port.specs.Laws.{OneOf, Stored, PowerOnSound, PowerOnAnswers, Orders, KeepsSound, KeepsStored, UnsoundRefused, OnlyUnsound, OwnNumbers, LeftAs, LeavesTable}
@@ -68,7 +68,7 @@ power-on-answers setting =
 
 pub orders : Orders
 unfolding own
-orders st u s h n = record { packets = refl; headers = refl; continuing = refl; polls = refl; setups = refl; takes = refl; offers = refl; panels = refl; buses = refl; aborts = refl }
+orders st s h n = record { packets = refl; headers = refl; continuing = refl; polls = refl; setups = refl; takes = refl; offers = refl; panels = refl; buses = refl; aborts = refl }
 
 -- ** an unsound unit
 
@@ -81,17 +81,21 @@ pub kept : (u : Device) (s : List ℕ) (n : ℕ) → carriedOut u s (planned (u 
 unfolding planned
 kept u s n = ap (λ (m : List ℕ). record { unit = record { message = m; reply = u .reply; state = u .state }; answer = number n }) (sym (paste-zero (u .message) (outOf (u .state) .held) s))
 
+-- a reply that is not taken is a refusal too
+pub unstored : (u : Device) (bytes : List ℕ) (n : ℕ) → withReply u bytes (plain (u .state) n) ≡ refused u n
+unstored u bytes n = ap (λ (m : List ℕ). record { unit = record { message = u .message; reply = m; state = u .state }; answer = number n }) (sym (paste-zero (u .reply) 0 bytes))
+
 pub unsound-refused : UnsoundRefused step
-unfolding step setup bulkOut outPlan outcome bulkIn poll take-message offer setStatus panel busReset suspend
+unfolding step setup bulkOut outPlan outcome bulkIn poll take-message taking offer offerPlan setStatus statusSet panel returned busReset suspend suspended
 unsound-refused u (setup-packet s room) e = unsound-first (refused u) (isSound u) _ e
 unsound-refused u (out-packet s) e = ap (λ (x : Outcome). carriedOut u s (planned (u .state) x)) (unsound-first Keep (isSound u) _ e) ∙ kept u s UNSOUND
 unsound-refused u (in-poll room) e = ap (said u) (unsound-first (refuse (u .state)) (isSound u) _ e)
-unsound-refused u (take-into room) e = unsound-first (refused u) (isSound u) _ e
-unsound-refused u (offer-reply bytes) e = unsound-first (refused u) (isSound u) _ e
-unsound-refused u (set-status status) e = unsound-first (refused u) (isSound u) _ e
-unsound-refused u front-panel e = unsound-first (refused u) (isSound u) _ e
+unsound-refused u (take-into room) e = ap (said u) (unsound-first (refuse (u .state)) (isSound u) _ e)
+unsound-refused u (offer-reply bytes) e = ap (withReply u bytes) (unsound-first (plain (u .state)) (isSound u) _ e) ∙ unstored u bytes UNSOUND
+unsound-refused u (set-status status) e = ap (said u) (unsound-first (refuse (u .state)) (isSound u) _ e)
+unsound-refused u front-panel e = ap (said u) (unsound-first (refuse (u .state)) (isSound u) _ e)
 unsound-refused u bus-reset e = unsound-first (refused u) (isSound u) _ e
-unsound-refused u bus-suspend e = unsound-first (refused u) (isSound u) _ e
+unsound-refused u bus-suspend e = ap (said u) (unsound-first (refuse (u .state)) (isSound u) _ e)
 
 -- ** the ways that a call can go
 
@@ -174,10 +178,10 @@ send-number st unsent = refl
 
 module _ (u : Device) where
   setup-way : (s : List ℕ) (room : ℕ) → Way u (setup-packet s room) (setup u s room)
-  unfolding setup own leaves answered made
+  unfolding setup own leaves answered served wiped made
   setup-way s room =
       let c = setup-packet s room in
-      decide-lines (Way u c) (refused u) (setupRules u s room) _
+      decide-lines (Way u c) (refused u) (setupRules (u .state) (length s) room) _
       (first-line u c (one UNSOUND (ownList c) tt), (λ _. keeps u c WRONG-SIZE (one WRONG-SIZE (ownList c) tt) refl (λ e. omega arith), tt))
       (λ n. by (not-no _ (n .0)) (readSetup s) (setup-configures s))
     where
@@ -186,7 +190,7 @@ module _ (u : Device) where
 
       by : isSound u ≡ true → (x : Setup) → Configures x → Way u (setup-packet s room) (answered u x)
       by h (Configure value) k = does _ refl (fresh-sound (u .state .small .port .setting) value (sound-of _ h .port .size) k) (λ _. zeroed-stored (u .state .small .port .setting) value)
-      by h (Asks row) k = pick-all (Way u (setup-packet s room)) (isConfigured (u .state)) _ _ (λ _. does _ (row-done (u .state) row) (row-sound (u .state) (sound-of _ h) row) (stays u _)) (λ _. no-row)
+      by h (Asks row) k = pick-all (λ (r : Said). Way u (setup-packet s room) (said u r)) (isConfigured (u .state)) _ _ (λ _. does _ (row-done (u .state) row) (row-sound (u .state) (sound-of _ h) row) (stays u _)) (λ _. no-row)
       by h NoRow k = no-row
 
   -- ** Bulk-OUT
@@ -327,10 +331,10 @@ module _ (u : Device) where
   -- ** the thermostat's calls and the bus's
 
   take-way : (room : ℕ) → Way u (take-into room) (take-message u room)
-  unfolding take-message own leaves
+  unfolding take-message taking own leaves
   take-way room =
       let c = take-into room in
-      decide-lines (Way u c) (refused u) (takeRules u room) _ (
+      decide-lines (λ (r : Said). Way u c (said u r)) (refuse (u .state)) (takeRules (u .state) room) _ (
         first-line u c (one UNSOUND (ownList c) tt),
         (
           λ _. keeps u c UNCONFIGURED (one UNCONFIGURED (ownList c) tt) refl (λ e. omega arith),
@@ -343,16 +347,16 @@ module _ (u : Device) where
       (λ n. does _ refl (released-sound (u .state) (sound-of _ (not-no _ (n .0))) (eqb-true _ _ (not-no _ (n .1 .1 .0)))) (stays u _))
 
   offer-way : (bytes : List ℕ) → Way u (offer-reply bytes) (offer u bytes)
-  unfolding offer own leaves
+  unfolding offer offerPlan own leaves
   offer-way bytes =
       let c = offer-reply bytes in
-      decide-lines (Way u c) (refused u) (offerRules u bytes) _ (
-        first-line u c (one UNSOUND (ownList c) tt),
+      decide-lines P (plain (u .state)) (offerRules (u .state) (length bytes)) _ (
+        λ e. k UNSOUND (first-line u c (one UNSOUND (ownList c) tt) e),
         (
-          λ _. keeps u c UNCONFIGURED (one UNCONFIGURED (ownList c) tt) refl (λ e. omega arith),
+          λ _. k UNCONFIGURED (keeps u c UNCONFIGURED (one UNCONFIGURED (ownList c) tt) refl (λ e. omega arith)),
           (
-            λ _. keeps u c WRONG-SIZE (one WRONG-SIZE (ownList c) tt) refl (λ e. omega arith),
-            (λ _. keeps u c NOT-NOW (one NOT-NOW (ownList c) tt) refl (λ e. omega arith), tt),
+            λ _. k WRONG-SIZE (keeps u c WRONG-SIZE (one WRONG-SIZE (ownList c) tt) refl (λ e. omega arith)),
+            (λ _. k NOT-NOW (keeps u c NOT-NOW (one NOT-NOW (ownList c) tt) refl (λ e. omega arith)), tt),
           ),
         ),
       )
@@ -360,18 +364,24 @@ module _ (u : Device) where
       let fits : length bytes ≤ STORE = ltb-false _ _ (none-right (length bytes =ᵇ 0) _ (n .1 .1 .0)) in
       does _ refl (offered-sound (u .state) (sound-of _ (not-no _ (n .0))) (length bytes) fits (none-left _ _ (n .1 .1 .1 .0)) (none-right (hasReply (inOf (u .state))) _ (n .1 .1 .1 .0)))
       (λ h. record { message = h .message; reply = length-paste (u .reply) 0 bytes (length bytes) (let l = h .reply in omega arith) (omega arith) ∙ h .reply }))
+    where
+      P : Plan → Type 0
+      P plan = Way u (offer-reply bytes) (withReply u bytes plan)
+
+      k : (n : ℕ) → Way u (offer-reply bytes) (refused u n) → P (plain (u .state) n)
+      k n w = subst (Way u (offer-reply bytes)) (sym (unstored u bytes n)) w
 
   module _ (c : Call) (list : OneOf UNSOUND (ownList c)) where
-    thermostat-way : (r : Result) → OneOf UNCONFIGURED (ownList c) → (Sound (u .state) → Way u c r) → Way u c (decide (refused u) (thermostatRules u) r)
+    thermostat-way : (r : Said) → OneOf UNCONFIGURED (ownList c) → (Sound (u .state) → Way u c (said u r)) → Way u c (said u (decide (refuse (u .state)) (thermostatRules (u .state)) r))
     unfolding leaves
     thermostat-way r o w =
-        decide-lines (Way u c) (refused u) (thermostatRules u) _ (first-line u c list, (λ _. keeps u c UNCONFIGURED o refl (λ e. omega arith), tt)) (λ n. w (sound-of _ (not-no _ (n .0))))
+        decide-lines (λ (q : Said). Way u c (said u q)) (refuse (u .state)) (thermostatRules (u .state)) _ (first-line u c list, (λ _. keeps u c UNCONFIGURED o refl (λ e. omega arith), tt)) (λ n. w (sound-of _ (not-no _ (n .0))))
 
-    bus-way : (r : Result) → (Sound (u .state) → Way u c r) → Way u c (decide (refused u) (busRules u) r)
-    bus-way r w = decide-lines (Way u c) (refused u) (busRules u) _ (first-line u c list, tt) (λ n. w (sound-of _ (not-no _ (n .0))))
+    bus-way : {A : Type 0} (Q : A → Type 0) (f : ℕ → A) (r : A) → (Way u c (refused u UNSOUND) → Q (f UNSOUND)) → (Sound (u .state) → Q r) → Q (decide f (busRules (u .state)) r)
+    bus-way Q f r k w = decide-lines Q f (busRules (u .state)) _ (λ e. k (first-line u c list e), tt) (λ n. w (sound-of _ (not-no _ (n .0))))
 
   pub way : (c : Call) → Way u c (step u c)
-  unfolding step own setStatus panel busReset suspend answered made
+  unfolding step own setStatus statusSet panel returned busReset suspend suspended answered served wiped made
   way (setup-packet s room) = setup-way s room
   way (out-packet s) = out-way s
   way (in-poll room) = in-way room
@@ -379,8 +389,8 @@ module _ (u : Device) where
   way (offer-reply bytes) = offer-way bytes
   way (set-status status) = thermostat-way (set-status status) (inl refl) _ (inr (inl refl)) (λ h. does _ refl (status-sound (u .state) h status) (stays u _))
   way front-panel = thermostat-way front-panel (inl refl) _ (inr (inl refl)) (λ h. does _ refl (remote-sound (u .state) h _) (stays u _))
-  way bus-reset = bus-way bus-reset (inl refl) _ (λ h. does _ refl (fresh-sound (u .state .small .port .setting) OFF (h .port .size) (omega arith)) (λ _. zeroed-stored (u .state .small .port .setting) OFF))
-  way bus-suspend = bus-way bus-suspend (inl refl) _ (λ h. does _ refl (local-sound (u .state) h) (stays u _))
+  way bus-reset = bus-way bus-reset (inl refl) (Way u bus-reset) (refused u) _ (λ w. w) (λ h. does _ refl (fresh-sound (u .state .small .port .setting) OFF (h .port .size) (omega arith)) (λ _. zeroed-stored (u .state .small .port .setting) OFF))
+  way bus-suspend = bus-way bus-suspend (inl refl) (λ (r : Said). Way u bus-suspend (said u r)) (refuse (u .state)) _ (λ w. w) (λ h. does _ refl (local-sound (u .state) h) (stays u _))
 
 -- ** the laws
 

@@ -21,7 +21,7 @@ use Rattle.port.specs.In.{Said, refuse, says, inRules, fixed, started, g
 use Rattle.port.specs.Survivors.{Survivors, survivors}
 use Rattle.port.specs.Rows.{clearing, initiateClear, checkClear, answerRow}
 use Rattle.port.specs.Device.{Device, Result, isSound, withState, unsentOf}
-use Rattle.port.specs.Calls.{refused, said, setupRules, answered, setup, bulkIn}
+use Rattle.port.specs.Calls.{refused, said, setupRules, served, wiped, answered, setup, bulkIn}
 use Rattle.port.specs.Step.{setup-packet, in-poll, step}
 use Rattle.port.specs.Laws.{INITIATE-CLEAR, CHECK-CLEAR-STATUS, success, Reached, Ready, ClearReached, Survive}
 use Rattle.port.specs.declared.types.BulkIn.{BulkIn}
@@ -56,20 +56,20 @@ initiate-keeps st c r room f =
 
 module _ (u : Device) (control room : ℕ) (h : Ready u control room) where
   -- a sound, configured unit serves every row
-  served : (s : List ℕ) (row : Row) → length s ≡ SETUP → readSetup s ≡ Asks row → step u (setup-packet s control) ≡ said u (answerRow (u .state) row)
-  unfolding step setup answered
-  served s row l e =
-      decide-none (refused u) (setupRules u s control) _ (no-false _ (h .sound), (or-none _ _ (eq-neb _ _ l) (le-ltb control CONTROL (h .control-fits)), tt))
+  row-served : (s : List ℕ) (row : Row) → length s ≡ SETUP → readSetup s ≡ Asks row → step u (setup-packet s control) ≡ said u (answerRow (u .state) row)
+  unfolding step setup answered served wiped
+  row-served s row l e =
+      decide-none (refused u) (setupRules (u .state) (length s) control) _ (no-false _ (h .sound), (or-none _ _ (eq-neb _ _ l) (le-ltb control CONTROL (h .control-fits)), tt))
       ∙ ap (answered u) e
-      ∙ at-true (isConfigured (u .state)) _ _ (h .configured)
+      ∙ ap (said u) (at-true (isConfigured (u .state)) _ _ (h .configured))
 
   checked : step u (setup-packet CHECK-CLEAR-STATUS control) ≡ said u (checkClear (u .state))
   unfolding answerRow
-  checked = served CHECK-CLEAR-STATUS CheckClearStatus refl read-check
+  checked = row-served CHECK-CLEAR-STATUS CheckClearStatus refl read-check
 
   initiated : step u (setup-packet INITIATE-CLEAR control) ≡ said u (initiateClear (u .state))
   unfolding answerRow
-  initiated = served INITIATE-CLEAR InitiateClear refl read-initiate
+  initiated = row-served INITIATE-CLEAR InitiateClear refl read-initiate
 
   -- with the packet not owed, CHECK answers SUCCESS
   succeeds : isClear (u .state .split) ≡ true → isOwed (inOf (u .state)) ≡ false → step u (setup-packet CHECK-CLEAR-STATUS control) .answer ≡ success

@@ -11,6 +11,8 @@ use Rattle.port.specs.Parts.{STORE, FULL-SPEED, isSize, fresh, outOf, in
 use Rattle.port.specs.Sound.{sound}
 use Rattle.port.specs.In.{Answer, Said, number}
 use Rattle.port.specs.declared.types.Setting.{Setting}
+use Rattle.port.specs.declared.types.BulkOut.{BulkOut}
+use Rattle.port.specs.declared.types.BulkIn.{BulkIn}
 use Rattle.port.specs.declared.types.State.{State}
 
 -- a unit, as the definitions have it: its two stores, and the state that calls are decided by
@@ -30,12 +32,18 @@ isSound u = sound (u .state)
 abbrev pub withState : Device → State → Device
 withState u st = record { message = u .message; reply = u .reply; state = st }
 
--- the message that comes in, and the bytes of the reply that have not gone
+-- the message that comes in, in the store that holds it, and the bytes of the reply that have not gone
+abbrev pub heldIn : BulkOut → List ℕ → List ℕ
+heldIn o message = take (o .held) message
+
+abbrev pub unsentIn : BulkIn → List ℕ → List ℕ
+unsentIn b reply = take (b .unsent) (drop (b .at) reply)
+
 abbrev pub heldOf : Device → List ℕ
-heldOf u = take (outOf (u .state) .held) (u .message)
+heldOf u = heldIn (outOf (u .state)) (u .message)
 
 abbrev pub unsentOf : Device → List ℕ
-unsentOf u = take (inOf (u .state) .unsent) (drop (inOf (u .state) .at) (u .reply))
+unsentOf u = unsentIn (inOf (u .state)) (u .reply)
 
 -- ** power-on
 

@@ -45,9 +45,16 @@ upTo char (b ∷ bs) = pick (b =ᵇ char) 1 (suc (upTo char bs))
 abbrev pub sendable : BulkIn → List ℕ → ℕ
 sendable b unsent = min (b .asked) (min (b .unsent) (pick (on (b .enabled)) (upTo (b .term) unsent) (b .unsent)))
 
--- "D0 when N is all that is left, D1 when TermChar is enabled and the last byte sent is it"
+-- "D0 when N is all that is left"
+abbrev pub endMark : BulkIn → ℕ → ℕ
+endMark b n = pick (n =ᵇ b .unsent) D0 0
+
+-- "D1 when TermChar is enabled and the last byte sent is it"
+abbrev pub termMark : BulkIn → List ℕ → ℕ → ℕ
+termMark b unsent n = pick (on (b .enabled) and byte unsent (n - 1) =ᵇ b .term) D1 0
+
 abbrev pub marks : BulkIn → List ℕ → ℕ → ℕ
-marks b unsent n = pick (n =ᵇ b .unsent) D0 0 + pick (on (b .enabled) and byte unsent (n - 1) =ᵇ b .term) D1 0
+marks b unsent n = endMark b n + termMark b unsent n
 
 unfoldable pub fixed : BulkIn → List ℕ → BulkIn
 fixed b unsent = record {

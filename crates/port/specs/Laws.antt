@@ -81,20 +81,20 @@ EachAnswered does = (k : Kind) (n : ℕ) → OneOf n (DONE ∷ own k) → Answer
 
 -- "The first that applies decides": the lists of rules have the paper's numbers in the paper's order. A header's 10 stands by MsgID behind
 -- its 9, and setup's 15 behind its list
-pub record InOrder (st : State) (u : Device) (s : List ℕ) (h : Header) (n : ℕ) : Type 0 where
+pub record InOrder (st : State) (s : List ℕ) (h : Header) (n : ℕ) : Type 0 where
   pub packets : named (outRules st n) ≡ bulk []
   pub headers : named (readingRules s) ++ (RESERVED ∷ []) ++ named (headerRules st s h) ≡ faults
   pub continuing : named (moreRules n n s) ≡ NOT-IN-FOURS ∷ WRONG-LENGTH ∷ MISALIGNED ∷ []
   pub polls : named (inRules st n) ≡ bulk []
-  pub setups : named (setupRules u s n) ++ (NO-ROW ∷ []) ≡ own setup
-  pub takes : named (takeRules u n) ≡ own taking
-  pub offers : named (offerRules u s) ≡ own offering
-  pub panels : named (thermostatRules u) ≡ own panel
-  pub buses : named (busRules u) ≡ own reset
+  pub setups : named (setupRules st n n) ++ (NO-ROW ∷ []) ≡ own setup
+  pub takes : named (takeRules st n) ≡ own taking
+  pub offers : named (offerRules st n) ≡ own offering
+  pub panels : named (thermostatRules st) ≡ own panel
+  pub buses : named (busRules st) ≡ own reset
   pub aborts : named (abortRules (st .split) true n n) ≡ SPLIT-IN-PROGRESS ∷ FAILED ∷ TRANSFER-NOT-IN-PROGRESS ∷ []
 
 abbrev pub Orders : Type 0
-Orders = (st : State) (u : Device) (s : List ℕ) (h : Header) (n : ℕ) → InOrder st u s h n
+Orders = (st : State) (s : List ℕ) (h : Header) (n : ℕ) → InOrder st s h n
 
 -- ** what a refusal leaves: the whole unit, no byte of a lent buffer, nothing told
 

@@ -4,6 +4,7 @@ pub mod Remote
 pub mod Sound
 pub mod Out
 pub mod In
+pub mod Given
 pub mod Rows
 pub mod Device
 pub mod Calls

@@ -110,3 +110,11 @@ pub struct Plan {
     pub from: usize,
     pub count: usize,
 }
+
+// What a call leaves whose bytes go into a lent buffer: the state after it, the number, what it tells, and how many bytes it wrote.
+pub struct Given {
+    pub state: State,
+    pub number: u8,
+    pub tells: u8,
+    pub len: usize,
+}

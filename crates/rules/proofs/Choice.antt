@@ -241,6 +241,15 @@ pub passes : {B : Type 0} (f : ℕ → B) (rs : List (Bool × ℕ)) (z : B) (n :
 unfolding Decided
 passes f rs z n h e = rw e (decided f rs z h .1)
 
+-- and where that number is 0, no test held
+pub none-of : (rs : List (Bool × ℕ)) (n : ℕ) → T (counted (named rs)) → n ≡ first rs 0 → n ≡ 0 → NoneOf rs
+none-of rs n h e z = decide-all (λ (m : ℕ). m ≡ 0 → NoneOf rs) (λ k. k) rs 0 (each (named rs) h) (λ ns _. ns) (sym e ∙ z)
+  where
+    each : (ns : List ℕ) → T (counted ns) → Each (λ (k : ℕ). k ≡ 0 → NoneOf rs) ns
+    each [] h = tt
+    each (zero ∷ ns) h = absurd h
+    each (suc k ∷ ns) h = (λ e. absurd (omega arith), each ns h)
+
 -- ** lists of tests
 
 abbrev pub AllOf : List Bool → Type 0

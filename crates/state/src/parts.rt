@@ -4,12 +4,13 @@ use port::types::BulkOut;
 use port::types::CLOSED;
 use port::types::Port;
 use port::types::Remote;
+use port::types::Setting;
 use port::types::Small;
 use port::types::Split;
 use port::types::State;
 ghost use mathlib.Core.Path.{_≡_};
 ghost use Prim.Native.Nat.{ℕ};
-ghost use Rattle.port.specs.Parts.{isNone, isClear, keepsHalt, withSplit, isOpenOut, isOpenIn, withPort, withOut, withIn, withRemote, withRen, withStatus, withInHalted, emptyOut, emptyIn, broken, shut};
+ghost use Rattle.port.specs.Parts.{isNone, isClear, keepsHalt, withSplit, isOpenOut, isOpenIn, withPort, withOut, withIn, withRemote, withRen, withStatus, withInHalted, emptyOut, emptyIn, fresh, broken, shut};
 
 pub fn with_port(st: State, port: Port) -> State
     ensures { λ r. ⌜ r ≡ withPort st port ⌝ }
@@ -142,6 +143,27 @@ pub fn empty_in(phase: u8, tag: u8, halted: u8, recent: u8) -> BulkIn
         tag,
         halted,
         recent,
+    }
+}
+
+// Nothing but its setting, and whether it is configured.
+pub fn fresh(setting: Setting, configured: u8) -> State
+    ensures { λ r. ⌜ r ≡ fresh setting configured ⌝ }
+{
+    let port = Port {
+        setting,
+        configured,
+        ren: 0,
+        status: 0,
+    };
+    State {
+        small: Small {
+            port,
+            bulkout: empty_out(0, 0),
+            bulkin: empty_in(CLOSED, 0, 0, 0),
+        },
+        split: Split::None,
+        remote: Remote::Locs,
     }
 }
 

@@ -6,7 +6,7 @@ use port::types::Remote;
 use port::types::State;
 ghost use mathlib.Core.Path.{_≡_};
 ghost use Prim.Native.Nat.{ℕ};
-ghost use Rattle.port.specs.Remote.{toLocal, lockedOut, withRenOn, localNow, headed};
+ghost use Rattle.port.specs.Remote.{toLocal, byPanel, lockedOut, withRenOn, localNow, headed};
 
 // A DEV_DEP_MSG_OUT header moves the remote/local state while REN is on.
 pub fn heard(ren: u8, r: Remote) -> Remote
@@ -31,6 +31,17 @@ pub fn to_local(r: Remote) -> Remote
         Remote::Rems => Remote::Locs,
         Remote::Lwls => Remote::Lwls,
         Remote::Rwls => Remote::Lwls,
+    }
+}
+
+pub fn by_panel(r: Remote) -> Remote
+    ensures { λ x. ⌜ x ≡ byPanel r ⌝ }
+{
+    match r {
+        Remote::Locs => Remote::Locs,
+        Remote::Rems => Remote::Locs,
+        Remote::Lwls => Remote::Lwls,
+        Remote::Rwls => Remote::Rwls,
     }
 }
 

@@ -1,24 +1,21 @@
-// Power-on: a unit with nothing but its setting.
+// Power-on and bus reset: a unit with nothing but its setting.
 use crate::types::Done;
 use crate::types::Unit;
-use port::types::CLOSED;
+use calls::bus::bus_gate;
 use port::types::FULL_SPEED;
 use port::types::HIGH_SPEED;
-use port::types::Port;
-use port::types::Remote;
 use port::types::Setting;
-use port::types::Small;
-use port::types::Split;
+use port::types::State;
 use rules::DONE;
 use rules::TELLS_NOTHING;
 use rules::WRONG_SIZE;
-use state::parts::empty_in;
-use state::parts::empty_out;
+use state::parts::fresh;
 use state::sound::is_size;
 ghost use mathlib.Core.Path.{_≡_};
 ghost use Prim.Native.Nat.{ℕ};
 ghost use Rattle.port.specs.Device.{made, powerOn};
-ghost use Rattle.unit.specs.Promise.{unitOf, doneOf};
+ghost use Rattle.port.specs.Calls.{busReset};
+ghost use Rattle.unit.specs.Promise.{deviceOf, unitOf, doneOf};
 
 impl Unit {
     // The packet sizes that there are.
@@ -47,26 +44,55 @@ impl Unit {
         }
     }
 
+    // The bus is reset: what SET_CONFIGURATION 0 does.
+    pub fn bus_reset(self) -> Done
+        ensures { λ r. ⌜ r ≡ doneOf (busReset (deviceOf self)) ⌝ }
+    {
+        let message = self.message;
+        let reply = self.reply;
+        let small = self.small;
+        let split = self.split;
+        let remote = self.remote;
+        let st = State {
+            small,
+            split,
+            remote,
+        };
+        let number = bus_gate(st);
+        if number != 0 {
+            return Done {
+                unit: Unit {
+                    message,
+                    reply,
+                    small,
+                    split,
+                    remote,
+                },
+                number,
+                tells: TELLS_NOTHING,
+            };
+        }
+        Done {
+            unit: Unit::made(small.port.setting, 0),
+            number: DONE,
+            tells: TELLS_NOTHING,
+        }
+    }
+
     // A unit with nothing stored, open, halted or in progress.
     fn made(setting: Setting, configured: u8) -> Unit
         ensures { λ r. ⌜ r ≡ unitOf (made setting configured) ⌝ }
     {
-        let small = Small {
-            port: Port {
-                setting,
-                configured,
-                ren: 0,
-                status: 0,
-            },
-            bulkout: empty_out(0, 0),
-            bulkin: empty_in(CLOSED, 0, 0, 0),
-        };
+        let st = fresh(setting, configured);
+        let small = st.small;
+        let split = st.split;
+        let remote = st.remote;
         Unit {
             message: [0; 1024],
             reply: [0; 1024],
             small,
-            split: Split::None,
-            remote: Remote::Locs,
+            split,
+            remote,
         }
     }
 }

@@ -18,3 +18,11 @@ pub struct Done {
     pub number: u8,
     pub tells: u8,
 }
+
+// The unit after a call that writes a lent buffer: `len` bytes of it, from its start on.
+pub struct Told {
+    pub unit: Unit,
+    pub number: u8,
+    pub tells: u8,
+    pub len: usize,
+}

@@ -1,4 +1,5 @@
 -- Laws that belong to no one function.
 pub mod Bytes
+pub mod Fronts
 pub mod Lawful
 pub mod SetupLaws

@@ -1,5 +1,6 @@
-// Reading a Bulk-OUT header: what it says, or its first fault.
+// Reading a Bulk-OUT header: what it says, or its first fault; and writing a Bulk-IN header.
 use crate::numbers::all_zero;
+use crate::numbers::bytes_of;
 use crate::numbers::le_u32;
 use crate::types::Header;
 use crate::types::Read;
@@ -11,7 +12,8 @@ use rules::UNKNOWN_MSGID;
 ghost use mathlib.Core.Path.{_≡_};
 ghost use Prim.Native.Nat.{ℕ, _≤_};
 ghost use lib.ListN.{length};
-ghost use Rattle.wire.specs.Header.{readMessage, readRequest, readTrigger, readHeader, requestEnd};
+ghost use Rattle.wire.specs.Bytes.{into};
+ghost use Rattle.wire.specs.Header.{readMessage, readRequest, readTrigger, readHeader, requestEnd, inHeader};
 
 // Bytes of a header.
 pub const HEADER: usize = 12;
@@ -126,4 +128,24 @@ pub fn read_header(s: &[u8]) -> Read
             number: UNKNOWN_MSGID,
         },
     }
+}
+
+// A Bulk-IN header in the first 12 bytes; every other byte stays.
+pub fn write_header(buf: &mut [u8], tag: u8, n: u32, attributes: u8)
+    requires { ⌜ 12 ≤ length (now buf) ⌝ }
+    ensures { λ _. ⌜ now (buf .exit) ≡ into (inHeader tag n attributes) (now (buf .entry)) ⌝ }
+{
+    let size = bytes_of(n);
+    buf[0] = 2;
+    buf[1] = tag;
+    buf[2] = 255 - tag;
+    buf[3] = 0;
+    buf[4] = size[0];
+    buf[5] = size[1];
+    buf[6] = size[2];
+    buf[7] = size[3];
+    buf[8] = attributes;
+    buf[9] = 0;
+    buf[10] = 0;
+    buf[11] = 0;
 }

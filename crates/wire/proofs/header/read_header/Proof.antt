@@ -10,70 +10,55 @@ use Rattle.wire.proofs.header.read_message.Reads as read-message-reads
 use Rattle.wire.proofs.header.read_request.Reads as read-request-reads
 use Rattle.wire.proofs.header.read_trigger.Reads as read-trigger-reads
 
--- src/header.rt:106:9
 returns : tie.Need-returns
 unfolding readHeader
 returns c = search picks depth 14
 
--- src/header.rt:109:9
 returns-2 : tie.Need-returns-2
 unfolding readHeader
 returns-2 c = search picks depth 14
 
--- src/header.rt:111:15
 shared-slice-read-tag : tie.Need-shared-slice-read-tag
 shared-slice-read-tag c = search needs
 
--- src/header.rt:113:9
 returns-3 : tie.Need-returns-3
 unfolding readHeader
 returns-3 c = search picks depth 14
 
--- src/header.rt:115:8
 shared-slice-read-if4 : tie.Need-shared-slice-read-if4
 shared-slice-read-if4 c = search needs
 
--- src/header.rt:115:16
 sub-if4 : tie.Need-sub-if4
 sub-if4 c = omega (arith, c .shared-slice-known3 .given 1)
 
--- src/header.rt:116:9
 returns-4 : tie.Need-returns-4
 unfolding readHeader
 returns-4 c = search picks depth 14
 
--- src/header.rt:118:14
 shared-slice-read-id : tie.Need-shared-slice-read-id
 shared-slice-read-id c = search needs
 
--- src/header.rt:120:14
 read-message-requires : tie.Need-read-message-requires
 read-message-requires c κs = search needs
 
--- src/header.rt:121:14
 read-request-requires : tie.Need-read-request-requires
 read-request-requires c κs = search needs
 
--- src/header.rt:122:16
 read-trigger-requires : tie.Need-read-trigger-requires
 read-trigger-requires c κs = search needs
 
--- src/header.rt:101:1
 returns-5 : tie.Need-returns-5
 unfolding readHeader
 returns-5 c = search picks depth 14
 
--- src/header.rt:101:1
 returns-6 : tie.Need-returns-6
 unfolding readHeader
 returns-6 c = search picks depth 14
 
--- src/header.rt:101:1
 returns-7 : tie.Need-returns-7
 unfolding readHeader
 returns-7 c = search picks depth 14
 
--- src/header.rt:101:1
 returns-8 : tie.Need-returns-8
 unfolding readHeader
 returns-8 c = search picks depth 14

@@ -8,47 +8,37 @@ use Rattle.wire.proofs.header.read_message.Lts as lts
 use Rattle.wire.proofs.numbers.all_zero.Reads as all-zero-reads
 use Rattle.wire.proofs.numbers.le_u32.Reads as le-u32-reads
 
--- src/header.rt:21:8
 shared-slice-read-if1 : tie.Need-shared-slice-read-if1
 shared-slice-read-if1 c = search needs
 
--- src/header.rt:22:9
 returns : tie.Need-returns
 unfolding readMessage
 returns c = search picks depth 14
 
--- src/header.rt:24:9
 le-u32-requires : tie.Need-le-u32-requires
 le-u32-requires c κs = search needs
 
--- src/header.rt:26:9
 returns-2 : tie.Need-returns-2
 unfolding readMessage
 returns-2 c = search picks depth 14
 
--- src/header.rt:28:15
 shared-slice-read-end : tie.Need-shared-slice-read-end
 shared-slice-read-end c = search needs
 
--- src/header.rt:30:9
 returns-3 : tie.Need-returns-3
 unfolding readMessage
 returns-3 c = search picks depth 14
 
--- src/header.rt:32:8
 all-zero-requires : tie.Need-all-zero-requires
 all-zero-requires c κs = search needs
 
--- src/header.rt:35:22
 shared-slice-read-t10 : tie.Need-shared-slice-read-t10
 shared-slice-read-t10 c = search needs
 
--- src/header.rt:33:9
 returns-4 : tie.Need-returns-4
 unfolding readMessage
 returns-4 c = rw (← (c .before .before .before .before .before .before .le-u32 .ensures)) (search picks depth 14)
 
--- src/header.rt:17:1
 returns-5 : tie.Need-returns-5
 unfolding readMessage
 returns-5 c = search picks depth 14

@@ -8,51 +8,40 @@ use Rattle.wire.proofs.header.read_request.Lts as lts
 use Rattle.wire.proofs.header.request_end.Reads as request-end-reads
 use Rattle.wire.proofs.numbers.le_u32.Reads as le-u32-reads
 
--- src/header.rt:67:8
 shared-slice-read-if1 : tie.Need-shared-slice-read-if1
 shared-slice-read-if1 c = search needs
 
--- src/header.rt:68:9
 returns : tie.Need-returns
 unfolding readRequest
 returns c = search picks depth 14
 
--- src/header.rt:70:9
 le-u32-requires : tie.Need-le-u32-requires
 le-u32-requires c κs = search needs
 
--- src/header.rt:72:9
 returns-2 : tie.Need-returns-2
 unfolding readRequest
 returns-2 c = search picks depth 14
 
--- src/header.rt:74:16
 shared-slice-read-bits : tie.Need-shared-slice-read-bits
 shared-slice-read-bits c = search needs
 
--- src/header.rt:76:14
 request-end-requires : tie.Need-request-end-requires
 request-end-requires c κs = search needs
 
--- src/header.rt:77:38
 shared-slice-read-request-end : tie.Need-shared-slice-read-request-end
 shared-slice-read-request-end c = search needs
 
--- src/header.rt:77:14
 request-end-requires-2 : tie.Need-request-end-requires-2
 request-end-requires-2 c κs = search needs
 
--- src/header.rt:63:1
 returns-3 : tie.Need-returns-3
 unfolding readRequest
 returns-3 c = rw (c .request-end .ensures, ← (c .before .before .before .before .le-u32 .ensures)) (search picks depth 14)
 
--- src/header.rt:63:1
 returns-4 : tie.Need-returns-4
 unfolding readRequest
 returns-4 c = rw (c .request-end2 .ensures, ← (c .before .before .before .before .before .le-u32 .ensures)) (search picks depth 14)
 
--- src/header.rt:63:1
 returns-5 : tie.Need-returns-5
 unfolding readRequest
 returns-5 c = search picks depth 14

@@ -7,20 +7,16 @@ use Rattle.wire.proofs.header.read_trigger.Reads as reads
 use Rattle.wire.proofs.header.read_trigger.Lts as lts
 use Rattle.wire.proofs.numbers.all_zero.Reads as all-zero-reads
 
--- src/header.rt:92:8
 all-zero-requires : tie.Need-all-zero-requires
 all-zero-requires c κs = search needs
 
--- src/header.rt:94:44
 shared-slice-read-t4 : tie.Need-shared-slice-read-t4
 shared-slice-read-t4 c = search needs
 
--- src/header.rt:93:9
 returns : tie.Need-returns
 unfolding readTrigger
 returns c = search picks depth 14
 
--- src/header.rt:88:1
 returns-2 : tie.Need-returns-2
 unfolding readTrigger
 returns-2 c = search picks depth 14

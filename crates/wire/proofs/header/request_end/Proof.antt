@@ -6,19 +6,15 @@ use Rattle.wire.proofs.header.request_end.Reads as reads
 use Rattle.wire.proofs.header.request_end.Lts as lts
 use Rattle.wire.proofs.numbers.all_zero.Reads as all-zero-reads
 
--- src/header.rt:49:8
 all-zero-requires : tie.Need-all-zero-requires
 all-zero-requires c κs = search needs
 
--- src/header.rt:52:22
 shared-slice-read-t7 : tie.Need-shared-slice-read-t7
 shared-slice-read-t7 c = search needs
 
--- src/header.rt:50:9
 returns : tie.Need-returns
 returns c = search picks depth 14
 
--- src/header.rt:45:1
 returns-2 : tie.Need-returns-2
 returns-2 c = search picks depth 14
 

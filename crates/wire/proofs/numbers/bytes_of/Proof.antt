@@ -6,23 +6,18 @@ use Rattle.wire.proofs.numbers.bytes_of.Tie as tie
 use Rattle.wire.proofs.numbers.bytes_of.Reads as reads
 use Rattle.wire.proofs.numbers.bytes_of.Lts as lts
 
--- src/numbers.rt:54:9
 cast-t4 : tie.Need-cast-t4
 cast-t4 c = search needs
 
--- src/numbers.rt:55:9
 cast-t7 : tie.Need-cast-t7
 cast-t7 c = search needs
 
--- src/numbers.rt:56:9
 cast-t9 : tie.Need-cast-t9
 cast-t9 c = search needs
 
--- src/numbers.rt:57:9
 cast-t12 : tie.Need-cast-t12
 cast-t12 c = search needs
 
--- src/numbers.rt:49:1
 returns : tie.Need-returns
 unfolding bytes4
 returns c = refl

@@ -6,27 +6,21 @@ use Rattle.wire.proofs.numbers.le_u32.Reads as reads
 use Rattle.wire.proofs.numbers.le_u32.Lts as lts
 use Rattle.wire.proofs.numbers.le_u16.Reads as le-u16-reads
 
--- src/numbers.rt:28:9
 le-u16-requires : tie.Need-le-u16-requires
 le-u16-requires c κs = search needs
 
--- src/numbers.rt:29:26
 add-le-u16 : tie.Need-add-le-u16
 add-le-u16 c = search needs
 
--- src/numbers.rt:29:9
 le-u16-requires-2 : tie.Need-le-u16-requires-2
 le-u16-requires-2 c κs = search needs
 
--- src/numbers.rt:30:11
 mul-result : tie.Need-mul-result
 mul-result c = search needs
 
--- src/numbers.rt:30:5
 add-result : tie.Need-add-result
 add-result c = search needs
 
--- src/numbers.rt:24:1
 returns : tie.Need-returns
 unfolding number4
 returns c = search needs

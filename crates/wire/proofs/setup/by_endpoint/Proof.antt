@@ -8,35 +8,27 @@ use Rattle.wire.proofs.numbers.le_u16.Reads as le-u16-reads
 use Rattle.wire.proofs.setup.matches.Reads as matches-reads
 use Rattle.wire.proofs.setup.row.Reads as row-reads
 
--- src/setup.rt:59:9
 le-u16-requires : tie.Need-le-u16-requires
 le-u16-requires c κs = search needs
 
--- src/setup.rt:61:20
 matches-requires : tie.Need-matches-requires
 matches-requires c κs = search needs
 
--- src/setup.rt:61:9
 row-requires : tie.Need-row-requires
 row-requires c κs = search needs
 
--- src/setup.rt:61:9
 returns : tie.Need-returns
 returns c = rw (c .row .ensures, c .before .matches .ensures) (search picks depth 8)
 
--- src/setup.rt:64:20
 matches-requires-2 : tie.Need-matches-requires-2
 matches-requires-2 c κs = search needs
 
--- src/setup.rt:64:9
 row-requires-2 : tie.Need-row-requires-2
 row-requires-2 c κs = search needs
 
--- src/setup.rt:64:9
 returns-2 : tie.Need-returns-2
 returns-2 c = rw (c .row2 .ensures, c .before .matches2 .ensures) (search picks depth 8)
 
--- src/setup.rt:55:1
 returns-3 : tie.Need-returns-3
 returns-3 c = search picks depth 8
 

@@ -5,27 +5,22 @@ use Rattle.wire.proofs.setup.fitting.Tie as tie
 use Rattle.wire.proofs.setup.fitting.Reads as reads
 use Rattle.wire.proofs.setup.fitting.Lts as lts
 
--- src/setup.rt:19:9
 returns : tie.Need-returns
 unfolding fitting
 returns c = search picks depth 16
 
--- src/setup.rt:22:9
 returns-2 : tie.Need-returns-2
 unfolding fitting
 returns-2 c = search picks depth 16
 
--- src/setup.rt:25:9
 returns-3 : tie.Need-returns-3
 unfolding fitting
 returns-3 c = search picks depth 16
 
--- src/setup.rt:28:9
 returns-4 : tie.Need-returns-4
 unfolding fitting
 returns-4 c = search picks depth 16
 
--- src/setup.rt:15:1
 returns-5 : tie.Need-returns-5
 unfolding fitting
 returns-5 c = search picks depth 16

@@ -7,23 +7,18 @@ use Rattle.wire.proofs.setup.matches.Lts as lts
 use Rattle.wire.proofs.numbers.le_u16.Reads as le-u16-reads
 use Rattle.wire.proofs.setup.fitting.Reads as fitting-reads
 
--- src/setup.rt:38:9
 le-u16-requires : tie.Need-le-u16-requires
 le-u16-requires c κs = search needs
 
--- src/setup.rt:39:9
 le-u16-requires-2 : tie.Need-le-u16-requires-2
 le-u16-requires-2 c κs = search needs
 
--- src/setup.rt:40:9
 le-u16-requires-3 : tie.Need-le-u16-requires-3
 le-u16-requires-3 c κs = search needs
 
--- src/setup.rt:41:5
 fitting-requires : tie.Need-fitting-requires
 fitting-requires c κs = search needs
 
--- src/setup.rt:34:1
 returns : tie.Need-returns
 returns c = rw (c .fitting .ensures, c .before .le-u163 .ensures .0, c .before .before .le-u162 .ensures .0, c .before .before .before .le-u16 .ensures .0)
 

@@ -11,56 +11,44 @@ use Rattle.wire.proofs.setup.to_feature.Reads as to-feature-reads
 use Rattle.wire.proofs.setup.to_interface.Reads as to-interface-reads
 use Rattle.wire.proofs.setup.to_status.Reads as to-status-reads
 
--- src/setup.rt:187:16
 shared-slice-read-kind : tie.Need-shared-slice-read-kind
 shared-slice-read-kind c = search needs
 
--- src/setup.rt:189:17
 to-endpoint-requires : tie.Need-to-endpoint-requires
 to-endpoint-requires c κs = search needs
 
--- src/setup.rt:190:17
 to-interface-requires : tie.Need-to-interface-requires
 to-interface-requires c κs = search needs
 
--- src/setup.rt:191:17
 to-feature-requires : tie.Need-to-feature-requires
 to-feature-requires c κs = search needs
 
--- src/setup.rt:192:17
 to-status-requires : tie.Need-to-status-requires
 to-status-requires c κs = search needs
 
--- src/setup.rt:193:17
 to-device-requires : tie.Need-to-device-requires
 to-device-requires c κs = search needs
 
--- src/setup.rt:183:1
 returns : tie.Need-returns
 unfolding readSetup
 returns c = rw (c .to-endpoint .ensures) (search picks depth 12)
 
--- src/setup.rt:183:1
 returns-2 : tie.Need-returns-2
 unfolding readSetup
 returns-2 c = rw (c .to-interface .ensures) (search picks depth 12)
 
--- src/setup.rt:183:1
 returns-3 : tie.Need-returns-3
 unfolding readSetup
 returns-3 c = rw (c .to-feature .ensures) (search picks depth 12)
 
--- src/setup.rt:183:1
 returns-4 : tie.Need-returns-4
 unfolding readSetup
 returns-4 c = rw (c .to-status .ensures) (search picks depth 12)
 
--- src/setup.rt:183:1
 returns-5 : tie.Need-returns-5
 unfolding readSetup
 returns-5 c = rw (c .to-device .ensures) (search picks depth 12)
 
--- src/setup.rt:183:1
 returns-6 : tie.Need-returns-6
 unfolding readSetup
 returns-6 c = search picks depth 12

@@ -4,11 +4,9 @@ use Rattle.wire.proofs.setup.row.Tie as tie
 use Rattle.wire.proofs.setup.row.Reads as reads
 use Rattle.wire.proofs.setup.row.Lts as lts
 
--- src/setup.rt:49:9
 returns : tie.Need-returns
 returns c = search picks depth 8
 
--- src/setup.rt:45:1
 returns-2 : tie.Need-returns-2
 returns-2 c = search picks depth 8
 

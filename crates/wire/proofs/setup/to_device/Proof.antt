@@ -12,29 +12,23 @@ use Rattle.wire.proofs.setup.to_device.Reads as reads
 use Rattle.wire.proofs.setup.to_device.Lts as lts
 use Rattle.wire.proofs.setup.matches.Reads as matches-reads
 
--- src/setup.rt:173:8
 shared-slice-read-if1 : tie.Need-shared-slice-read-if1
 shared-slice-read-if1 c = search needs
 
--- src/setup.rt:174:12
 matches-requires : tie.Need-matches-requires
 matches-requires c κs = search needs
 
--- src/setup.rt:175:46
 shared-slice-read-t7 : tie.Need-shared-slice-read-t7
 shared-slice-read-t7 c = search needs
 
--- src/setup.rt:175:13
 returns : tie.Need-returns
 unfolding toDevice
 returns c = rw (← (tag-row (c .before .before .before .before .before .before .args .s .now) 0 1 0 0 Configure (omega arith))) (search picks depth 10)
 
--- src/setup.rt:177:9
 returns-2 : tie.Need-returns-2
 unfolding toDevice
 returns-2 c = search picks depth 10
 
--- src/setup.rt:169:1
 returns-3 : tie.Need-returns-3
 unfolding toDevice
 returns-3 c = search picks depth 8

@@ -13,67 +13,52 @@ use Rattle.wire.proofs.setup.to_endpoint.Lts as lts
 use Rattle.wire.proofs.setup.matches.Reads as matches-reads
 use Rattle.wire.proofs.setup.row.Reads as row-reads
 
--- src/setup.rt:74:17
 shared-slice-read-asked : tie.Need-shared-slice-read-asked
 shared-slice-read-asked c = search needs
 
--- src/setup.rt:75:15
 shared-slice-read-tag : tie.Need-shared-slice-read-tag
 shared-slice-read-tag c = search needs
 
--- src/setup.rt:78:13
 matches-requires : tie.Need-matches-requires
 matches-requires c κs = search needs
 
--- src/setup.rt:77:14
 row-requires : tie.Need-row-requires
 row-requires c κs = search needs
 
--- src/setup.rt:82:13
 matches-requires-2 : tie.Need-matches-requires-2
 matches-requires-2 c κs = search needs
 
--- src/setup.rt:81:14
 row-requires-2 : tie.Need-row-requires-2
 row-requires-2 c κs = search needs
 
--- src/setup.rt:86:13
 matches-requires-3 : tie.Need-matches-requires-3
 matches-requires-3 c κs = search needs
 
--- src/setup.rt:85:14
 row-requires-3 : tie.Need-row-requires-3
 row-requires-3 c κs = search needs
 
--- src/setup.rt:89:18
 matches-requires-4 : tie.Need-matches-requires-4
 matches-requires-4 c κs = search needs
 
--- src/setup.rt:89:14
 row-requires-4 : tie.Need-row-requires-4
 row-requires-4 c κs = search needs
 
--- src/setup.rt:70:1
 returns : tie.Need-returns
 unfolding toEndpoint
 returns c = rw (c .row .ensures, c .before .matches .ensures, tag-row (c .before .before .before .before .before .before .args .s .now) 1 255 1 2 (λ n. Asks (InitiateAbortBulkOut n)) (omega arith)) (search picks depth 14)
 
--- src/setup.rt:70:1
 returns-2 : tie.Need-returns-2
 unfolding toEndpoint
 returns-2 c = rw (c .row2 .ensures, c .before .matches2 .ensures) (search picks depth 14)
 
--- src/setup.rt:70:1
 returns-3 : tie.Need-returns-3
 unfolding toEndpoint
 returns-3 c = rw (c .row3 .ensures, c .before .matches3 .ensures, tag-row (c .before .before .before .before .before .before .args .s .now) 1 255 0x82 2 (λ n. Asks (InitiateAbortBulkIn n)) (omega arith)) (search picks depth 14)
 
--- src/setup.rt:70:1
 returns-4 : tie.Need-returns-4
 unfolding toEndpoint
 returns-4 c = rw (c .row4 .ensures, c .before .matches4 .ensures) (search picks depth 14)
 
--- src/setup.rt:70:1
 returns-5 : tie.Need-returns-5
 unfolding toEndpoint
 returns-5 c = search picks depth 14

@@ -7,29 +7,23 @@ use Rattle.wire.proofs.setup.to_feature.Reads as reads
 use Rattle.wire.proofs.setup.to_feature.Lts as lts
 use Rattle.wire.proofs.setup.by_endpoint.Reads as by-endpoint-reads
 
--- src/setup.rt:122:17
 shared-slice-read-asked : tie.Need-shared-slice-read-asked
 shared-slice-read-asked c = search needs
 
--- src/setup.rt:124:14
 by-endpoint-requires : tie.Need-by-endpoint-requires
 by-endpoint-requires c κs = search needs
 
--- src/setup.rt:134:14
 by-endpoint-requires-2 : tie.Need-by-endpoint-requires-2
 by-endpoint-requires-2 c κs = search needs
 
--- src/setup.rt:118:1
 returns : tie.Need-returns
 unfolding toFeature
 returns c = rw (c .by-endpoint .ensures) (search picks depth 8)
 
--- src/setup.rt:118:1
 returns-2 : tie.Need-returns-2
 unfolding toFeature
 returns-2 c = rw (c .by-endpoint2 .ensures) (search picks depth 8)
 
--- src/setup.rt:118:1
 returns-3 : tie.Need-returns-3
 unfolding toFeature
 returns-3 c = search picks depth 8

@@ -7,20 +7,16 @@ use Rattle.wire.proofs.setup.to_status.Reads as reads
 use Rattle.wire.proofs.setup.to_status.Lts as lts
 use Rattle.wire.proofs.setup.by_endpoint.Reads as by-endpoint-reads
 
--- src/setup.rt:153:8
 shared-slice-read-if1 : tie.Need-shared-slice-read-if1
 shared-slice-read-if1 c = search needs
 
--- src/setup.rt:154:9
 by-endpoint-requires : tie.Need-by-endpoint-requires
 by-endpoint-requires c κs = search needs
 
--- src/setup.rt:154:9
 returns : tie.Need-returns
 unfolding toStatus
 returns c = rw (c .by-endpoint .ensures) (search picks depth 8)
 
--- src/setup.rt:149:1
 returns-2 : tie.Need-returns-2
 unfolding toStatus
 returns-2 c = search picks depth 8

@@ -1,22 +1,18 @@
-use Rattle.port.specs.Parts.{fresh}
 use Rattle.port.specs.Device.{zeroed, made}
+use Rattle.port.specs.Parts.{fresh}
 use borrow.Author.Needs.{needs}
 use Rattle.unit.proofs.types.Unit.made.Statement.{statement}
 use Rattle.unit.proofs.types.Unit.made.Tie as tie
 use Rattle.unit.proofs.types.Unit.made.Reads as reads
 use Rattle.unit.proofs.types.Unit.made.Lts as lts
-use Rattle.state.proofs.parts.empty_in.Reads as empty-in-reads
-use Rattle.state.proofs.parts.empty_out.Reads as empty-out-reads
+use Rattle.state.proofs.parts.fresh.Reads as fresh-reads
 
-empty-out-requires : tie.Need-empty-out-requires
-empty-out-requires c κs = search needs
-
-empty-in-requires : tie.Need-empty-in-requires
-empty-in-requires c κs = search needs
+fresh-requires : tie.Need-fresh-requires
+fresh-requires c κs = search needs
 
 returns : tie.Need-returns
-unfolding made zeroed fresh
-returns c = rw (c .empty-in .ensures, c .before .empty-out .ensures)
+unfolding made zeroed
+returns c = rw (c .before .fresh .ensures)
 
 pub made-spec : {M : Type 1} → statement M
-made-spec = tie.close (tie.spec empty-out-requires empty-in-requires returns)
+made-spec = tie.close (tie.spec fresh-requires returns)

@@ -1,0 +1,2 @@
+// Bulk-OUT in code, decided over the small state by value.
+pub mod out; // a Bulk-OUT packet

@@ -1,0 +1,2 @@
+-- The parts of a poll in code.
+pub mod Poll

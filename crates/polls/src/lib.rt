@@ -1,0 +1,2 @@
+// Bulk-IN in code: decided over the small state by value, and read from the reply store.
+pub mod poll; // a Bulk-IN poll
