@@ -51,7 +51,7 @@ fn equal(model: &str, program: &str) -> bool {
 
 fn heard(program: &mut Program, patience: Duration) -> Result<String, String> {
     match program.hear(patience) {
-        Heard::Line(line) => Ok(line),
+        Heard::Line(line) => Ok(String::from_utf8_lossy(&line).into_owned()),
         Heard::Ended => Err("(no answer: the program ended)".to_string()),
         Heard::Silent => Err(format!("(no answer within {} seconds)", patience.as_secs())),
     }
@@ -137,7 +137,7 @@ fn last_line(program: &mut Program, traffic: &mut Traffic) -> Option<Difference>
     }
     match program.hear(PATIENCE) {
         Heard::Ended => None,
-        Heard::Line(line) => differs("(no more answers)".to_string(), line),
+        Heard::Line(line) => differs("(no more answers)".to_string(), String::from_utf8_lossy(&line).into_owned()),
         Heard::Silent => {
             differs("(the output ends with the input)".to_string(), "(the program still runs)".to_string())
         }

@@ -3,6 +3,7 @@
 // `length % 4 != 0` reads as the paper does.
 #![allow(clippy::manual_is_multiple_of)]
 
+mod bulk;
 mod calls;
 mod cells;
 mod compare;
@@ -18,7 +19,7 @@ mod traffic;
 mod unit;
 
 use compare::Options;
-use std::io::Write;
+use std::io::{BufWriter, Write};
 use std::process::ExitCode;
 use unit::Fault;
 
@@ -28,6 +29,11 @@ model scripts FILE..           plays scripts and compares with the answers behin
 model compare [--seed N] [--calls N] [--seconds N] --program CMD..
                                sends the same traffic to a program and the model and compares every answer
 model faults [--seed N]        tries whether the comparison finds three deliberate faults
+model traffic [--seed N] [--lines N]
+                               writes the first lines of the traffic that `compare` sends, 200,000 of them
+model one-by-one --program CMD..
+                               gives a program the lines of standard input, each after its answer to the one
+                               before, and writes its answers
 
 --seed, --calls and --seconds may also stand at the end, after the words of the program. Without --calls and
 --seconds a comparison has 1,000,000 calls. Faults: length-off-by-one, tag-kept-over-clear, half-kept-after-halt.
@@ -35,6 +41,7 @@ Exit: 0 all is well, 1 there is a difference or an empty cell, 2 the command can
 ";
 
 const DEFAULT_CALLS: u64 = 1_000_000;
+const DEFAULT_LINES: u64 = 200_000;
 
 fn main() -> ExitCode {
     let words: Vec<String> = std::env::args().skip(1).collect();
@@ -43,6 +50,8 @@ fn main() -> ExitCode {
         Some("scripts") => play_scripts(&words[1..]),
         Some("compare") => read_options(&words[1..]).and_then(|options| show(compare::report(&options)?)),
         Some("faults") => faults(&words[1..]),
+        Some("traffic") => traffic(&words[1..]),
+        Some("one-by-one") => one_by_one(&words[1..]),
         Some("help" | "--help" | "-h") => show((USAGE.to_string(), true)),
         Some(other) => Err(format!("`{other}` is no command. Use one of these:\n\n{USAGE}")),
         None => Err(format!("a command is missing. Use one of these:\n\n{USAGE}")),
@@ -168,4 +177,33 @@ fn faults(words: &[String]) -> Result<bool, String> {
         format!("the model's own path is not known: {error}. Use `model compare --program model play --fault NAME`.")
     })?;
     show(compare::report_faults(&own_path.to_string_lossy(), seed)?)
+}
+
+fn traffic(words: &[String]) -> Result<bool, String> {
+    let (mut seed, mut lines) = (1, DEFAULT_LINES);
+    for pair in words.chunks(2) {
+        match pair[0].as_str() {
+            "--seed" => seed = number("--seed", pair.get(1))?,
+            "--lines" => lines = number("--lines", pair.get(1))?,
+            other => return Err(format!("`{other}` is no option of traffic: use --seed and --lines.")),
+        }
+    }
+    if lines == 0 {
+        return Err("traffic of no lines says nothing: give --lines 1 or more.".to_string());
+    }
+    let mut output = BufWriter::new(std::io::stdout().lock());
+    bulk::unless_closed(bulk::write_traffic(seed, lines, &mut output))
+}
+
+fn one_by_one(words: &[String]) -> Result<bool, String> {
+    match words {
+        [option, program @ ..] if option == "--program" && !program.is_empty() => {
+            let mut output = BufWriter::new(std::io::stdout().lock());
+            bulk::one_by_one(program, &mut std::io::stdin().lock(), &mut output)
+        }
+        _ => {
+            Err("one-by-one needs a program to give the lines to: `model one-by-one --program ../run replay`."
+                .to_string())
+        }
+    }
 }

@@ -15,10 +15,10 @@ pub struct Program {
     start: usize,
 }
 
-/// The next line of the program, or why there is none.
+/// The next line of the program, without its newline, or why there is none.
 #[derive(Clone, Debug, PartialEq, Eq)]
 pub enum Heard {
-    Line(String),
+    Line(Vec<u8>),
     Ended,
     Silent,
 }
@@ -75,7 +75,7 @@ impl Program {
         loop {
             if let Some(length) = self.unread[searched..].iter().position(|&byte| byte == b'\n') {
                 let end = searched + length;
-                let line = String::from_utf8_lossy(&self.unread[self.start..end]).into_owned();
+                let line = self.unread[self.start..end].to_vec();
                 self.start = end + 1;
                 return Heard::Line(line);
             }
@@ -87,9 +87,9 @@ impl Program {
                 Err(RecvTimeoutError::Timeout) => return Heard::Silent,
                 Err(RecvTimeoutError::Disconnected) if self.unread.is_empty() => return Heard::Ended,
                 Err(RecvTimeoutError::Disconnected) => {
-                    let line = String::from_utf8_lossy(&self.unread).into_owned();
-                    self.unread.clear();
-                    return Heard::Line(format!("{line} (and no newline)"));
+                    let mut line = std::mem::take(&mut self.unread);
+                    line.extend_from_slice(b" (and no newline)");
+                    return Heard::Line(line);
                 }
             }
         }

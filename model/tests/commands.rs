@@ -14,6 +14,14 @@ fn text(bytes: &[u8]) -> String {
     String::from_utf8_lossy(bytes).into_owned()
 }
 
+/// An answer without the words behind `? `, which are free.
+fn plain(answer: &str) -> &str {
+    if answer.starts_with("? ") {
+        return "?";
+    }
+    answer
+}
+
 fn vectors() -> Vec<PathBuf> {
     let folder = Path::new(env!("CARGO_MANIFEST_DIR")).join("../vectors");
     let entries = std::fs::read_dir(folder).expect("the folder vectors stands beside the folder model");
@@ -52,8 +60,8 @@ fn a_script_is_answered_as_replay_answers_it() {
         let output = child.wait_with_output().unwrap();
         writer.join().unwrap();
         let expected: Vec<&str> =
-            script.lines().filter_map(|line| line.rsplit_once("#= ").map(|(_, answer)| answer)).collect();
-        assert_eq!(text(&output.stdout).lines().collect::<Vec<_>>(), expected, "{}", path.display());
+            script.lines().filter_map(|line| line.rsplit_once("#= ").map(|(_, answer)| plain(answer))).collect();
+        assert_eq!(text(&output.stdout).lines().map(plain).collect::<Vec<_>>(), expected, "{}", path.display());
     }
 }
 
@@ -90,6 +98,55 @@ fn a_program_that_does_not_answer_is_told() {
     }
 }
 
+fn with_input(words: &[&str], input: &[u8]) -> Output {
+    let mut child = Command::new(MODEL)
+        .args(words)
+        .stdin(Stdio::piped())
+        .stdout(Stdio::piped())
+        .stderr(Stdio::piped())
+        .spawn()
+        .unwrap();
+    let mut to_child = child.stdin.take().unwrap();
+    let copy = input.to_vec();
+    // A program that ends early leaves the rest unread.
+    let writer = std::thread::spawn(move || drop(to_child.write_all(&copy)));
+    let output = child.wait_with_output().unwrap();
+    writer.join().unwrap();
+    output
+}
+
+#[test]
+fn one_by_one_the_answers_are_those_of_all_at_once() {
+    let traffic = model(&["traffic", "--seed", "2", "--lines", "5000"]).stdout;
+    assert_eq!(traffic.split(|&byte| byte == b'\n').count(), 5000);
+    let at_once = with_input(&["play"], &traffic);
+    let one_by_one = with_input(&["one-by-one", "--program", MODEL, "play"], &traffic);
+    assert_eq!(one_by_one.status.code(), Some(0), "{}", text(&one_by_one.stderr));
+    assert!(one_by_one.stdout == at_once.stdout);
+}
+
+#[test]
+fn a_line_without_an_answer_is_not_waited_for() {
+    let script = b"# a comment\n\n \t \r\npower 64\n  # another\nfrobnicate\nin # the last, and no newline";
+    let output = with_input(&["one-by-one", "--program", MODEL, "play"], script);
+    assert_eq!(output.status.code(), Some(0), "{}", text(&output.stderr));
+    let answers = text(&output.stdout);
+    let answers: Vec<&str> = answers.lines().collect();
+    assert_eq!(answers.len(), 3);
+    assert!(answers[0] == "0" && answers[1].starts_with("? ") && answers[2] == "2", "{answers:?}");
+}
+
+/// `true` answers nothing; `cat` answers the comment too, and its bytes come back as they were sent.
+#[test]
+fn one_by_one_tells_what_a_program_answers() {
+    let output = with_input(&["one-by-one", "--program", "true"], b"state\n");
+    assert_eq!(output.status.code(), Some(1));
+    assert!(text(&output.stderr).contains("no answer to line 1"), "{}", text(&output.stderr));
+    let output = with_input(&["one-by-one", "--program", "cat"], b"# \xff\nstate \xfe\n");
+    assert_eq!(output.status.code(), Some(0), "{}", text(&output.stderr));
+    assert_eq!(output.stdout, b"# \xff\nstate \xfe\n");
+}
+
 #[test]
 fn what_is_wrong_with_a_command_is_said() {
     for (words, hint) in [
@@ -106,6 +163,12 @@ fn what_is_wrong_with_a_command_is_said() {
         (&["compare", "--pace", "1", "--program", "cat"], "no option"),
         (&["compare", "--program", "./no-such-program"], "cannot be started"),
         (&["faults", "now"], "--seed"),
+        (&["traffic", "--calls", "5"], "no option"),
+        (&["traffic", "--lines", "0"], "says nothing"),
+        (&["traffic", "--seed"], "whole number"),
+        (&["one-by-one"], "--program"),
+        (&["one-by-one", "--program"], "--program"),
+        (&["one-by-one", "--program", "./no-such-program"], "cannot be started"),
     ] {
         let output = model(words);
         assert_eq!(output.status.code(), Some(2), "{words:?}");

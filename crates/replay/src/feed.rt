@@ -1,12 +1,14 @@
 // The lines in what was read, and the part of a line that waits for its end.
-use crate::line::LONGEST;
 use crate::line::play;
-use crate::text::put_byte;
-use crate::words::find;
-use crate::words::first_part;
-use crate::wrong::too_long;
 use libc::STDERR_FILENO;
 use libc::STDOUT_FILENO;
+use lines::asked::LONGEST;
+use lines::text::put_byte;
+use lines::words::Word;
+use lines::words::find;
+use lines::words::first_part;
+use lines::words::part;
+use lines::wrong::too_long;
 use port::types::FULL_SPEED;
 use port::types::Setting;
 use unit::types::Unit;
@@ -89,17 +91,15 @@ fn ended_with_room(feed: Feed, line: &[u8], out: &mut [u8]) -> Feed {
 }
 
 // Plays each whole line of what was read.
-pub fn lines(feed: Feed, text: &[u8], out: &mut [u8]) -> Feed {
+pub fn whole_lines(feed: Feed, text: &[u8], out: &mut [u8]) -> Feed {
     let mut after = feed;
     let mut from: usize = 0;
-    while from < text.len() {
-        let end = find(text, from, b'\n');
-        if end == text.len() {
-            after.played = from;
-            return after;
-        }
-        after = ended_with_room(after, &text[from..end], out);
+    let mut end = find(text, from, b'\n');
+    while end < text.len() {
+        let line = Word { from, to: end };
+        after = ended_with_room(after, part(text, line), out);
         from = end + 1;
+        end = find(text, from, b'\n');
     }
     after.played = from;
     after

@@ -1,25 +1,18 @@
 // Plays calls: reads one a line from standard input, and writes one line for each to standard output.
-mod answer; // the answer to a call
-mod calls; // each call with its words
+mod carried; // each call with its words
 mod feed; // the lines in what was read
 mod lent; // the calls that are lent a buffer
 mod line; // one line
-mod names; // the names of the calls
-mod numbers; // numbers and bytes in words
-mod overview; // the answer to `state`
 mod played; // what playing a line leaves
-mod text; // text into a buffer
-mod words; // a line's words
-mod wrong; // the answers to lines that cannot be read
 
 use feed::Feed;
 use feed::ended;
 use feed::first_feed;
 use feed::kept;
-use feed::lines;
+use feed::whole_lines;
 use feed::written;
 use libc::STDIN_FILENO;
-use words::first_part;
+use lines::words::first_part;
 
 // The place behind n more bytes, and none past `most`.
 fn behind(at: usize, n: usize, most: usize) -> usize {
@@ -51,7 +44,7 @@ fn last_turn(feed: Feed, input: &[u8], output: &mut [u8]) -> Feed {
 
 // The lines in what was read are played, and their answers written.
 fn some_lines(feed: Feed, input: &[u8], output: &mut [u8]) -> Feed {
-    let after = lines(feed, input, output);
+    let after = whole_lines(feed, input, output);
     written(after, output)
 }
 

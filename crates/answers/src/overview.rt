@@ -1,0 +1,112 @@
+// The answer to `state`: the parts of a unit on one line.
+use lines::text::put;
+use lines::text::put_byte;
+use lines::text::put_decimal;
+use lines::text::put_pair;
+use port::types::BulkIn;
+use port::types::BulkOut;
+use port::types::OWED;
+use port::types::Port;
+use port::types::Remote;
+use port::types::Small;
+use port::types::Split;
+
+// 0 or 1.
+fn put_flag(out: &mut [u8], at: usize, is_set: bool) -> usize {
+    if is_set {
+        return put_byte(out, at, b'1');
+    }
+    put_byte(out, at, b'0')
+}
+
+fn put_remote(out: &mut [u8], at: usize, remote: Remote) -> usize {
+    match remote {
+        Remote::Locs => put(out, at, b" remote=LOCS"),
+        Remote::Rems => put(out, at, b" remote=REMS"),
+        Remote::Lwls => put(out, at, b" remote=LWLS"),
+        Remote::Rwls => put(out, at, b" remote=RWLS"),
+    }
+}
+
+fn put_split(out: &mut [u8], at: usize, split: Split) -> usize {
+    match split {
+        Split::None => put(out, at, b" split=none"),
+        Split::AbortOut { count: _ } => put(out, at, b" split=abort-out"),
+        Split::AbortIn { count: _ } => put(out, at, b" split=abort-in"),
+        Split::Clear => put(out, at, b" split=clear"),
+    }
+}
+
+fn put_halted(out: &mut [u8], at: usize, halted: u8) -> usize {
+    if halted == 1 {
+        return put(out, at, b"halted");
+    }
+    put(out, at, b"running")
+}
+
+// The message that Bulk-OUT brings: whole, a part of one, or none.
+fn put_message(out: &mut [u8], at: usize, bulkout: BulkOut) -> usize {
+    if bulkout.ready == 1 {
+        let next = put(out, at, b" message=ready:");
+        return put_decimal(out, next, bulkout.held);
+    }
+    if bulkout.held != 0 {
+        let next = put(out, at, b" message=part:");
+        return put_decimal(out, next, bulkout.held);
+    }
+    if bulkout.left != 0 {
+        return put(out, at, b" message=part:0");
+    }
+    put(out, at, b" message=none")
+}
+
+fn put_port(out: &mut [u8], at: usize, port: Port, remote: Remote) -> usize {
+    let at = put(out, at, b"0 configured=");
+    let at = put_flag(out, at, port.configured == 1);
+    let at = put(out, at, b" ren=");
+    let at = put_flag(out, at, port.ren == 1);
+    let at = put_remote(out, at, remote);
+    let at = put(out, at, b" status=");
+    put_pair(out, at, port.status)
+}
+
+fn put_halts(out: &mut [u8], at: usize, bulkout: BulkOut, bulkin: BulkIn) -> usize {
+    let at = put(out, at, b" out=");
+    let at = put_halted(out, at, bulkout.halted);
+    let at = put(out, at, b" in=");
+    put_halted(out, at, bulkin.halted)
+}
+
+fn put_tags(out: &mut [u8], at: usize, bulkout: BulkOut, bulkin: BulkIn) -> usize {
+    let at = put(out, at, b" tags=");
+    let at = put_pair(out, at, bulkout.recent);
+    let at = put_byte(out, at, b',');
+    put_pair(out, at, bulkin.recent)
+}
+
+// The reply that Bulk-IN sends, and the split in progress.
+fn put_reply(out: &mut [u8], at: usize, bulkin: BulkIn, split: Split) -> usize {
+    let at = put(out, at, b" reply=");
+    let at = put_decimal(out, at, bulkin.unsent);
+    let at = put_split(out, at, split);
+    let at = put(out, at, b" owed=");
+    put_flag(out, at, bulkin.phase == OWED)
+}
+
+pub fn put_overview(
+    out: &mut [u8],
+    at: usize,
+    small: Small,
+    split: Split,
+    remote: Remote,
+) -> usize {
+    let port = small.port;
+    let bulkout = small.bulkout;
+    let bulkin = small.bulkin;
+    let at = put_port(out, at, port, remote);
+    let at = put_halts(out, at, bulkout, bulkin);
+    let at = put_message(out, at, bulkout);
+    let at = put_reply(out, at, bulkin, split);
+    let at = put_tags(out, at, bulkout, bulkin);
+    put_byte(out, at, b'\n')
+}
