@@ -1,0 +1,251 @@
+-- In every history each message that is handed over is the data of the complete transfers since the message or break before: every call keeps the
+-- unit and the history in agreement.
+-- Assumes nothing.
+use Prim.Native.Nat.{ℕ, _+_, _≤_, min}
+use mathlib.Core.Path.{_≡_, refl, sym, ap, _∙_}
+use mathlib.Core.Bool.{true, false}
+use mathlib.Core.List.{List, [], _∷_, _++_}
+use lib.ListN.{length, take, drop, length-drop, length-replicate}
+use lib.Seq.{paste, paste-zero}
+use mathlib.Core.Logic.{⊎-elim}
+use Rattle.rules.specs.Choice.{_=ᵇ_, no, pick}
+use Rattle.rules.specs.Answers.{DONE, UNSOUND, UNCONFIGURED, WRONG-SIZE, NO-ROW, NOT-NOW, SUCCESS, FAILED, TRANSFER-NOT-IN-PROGRESS, SPLIT-IN-PROGRESS}
+use Rattle.rules.proofs.Choice.{pick-all, decide-all, at-true, at-false, not-no}
+use Rattle.wire.specs.Header.{HEADER, OFF, ON}
+use Rattle.wire.specs.Setup.{readSetup}
+use Rattle.wire.specs.declared.types.Header.the-variants.{Message, Request, Trigger}
+use Rattle.wire.specs.declared.types.Endpoint.the-variants.{Out, In}
+use Rattle.wire.specs.declared.types.Row.{Row}
+use Rattle.wire.specs.declared.types.Row.the-variants.{InitiateAbortBulkOut, CheckAbortBulkOutStatus, InitiateAbortBulkIn, CheckAbortBulkInStatus, InitiateClear, CheckClearStatus, GetCapabilities, IndicatorPulse, ReadStatusByte, RenControl, GoToLocal, LocalLockout, ClearFeature, SetFeature, GetStatus}
+use Rattle.wire.specs.declared.types.Setup.{Setup}
+use Rattle.wire.specs.declared.types.Setup.the-variants.{Configure, Asks, NoRow}
+use Rattle.port.specs.Parts.{STORE, on, isSize, isOpenOut, isOpenIn, isOwed, isClear, outOf, inOf, isConfigured, broken, fresh}
+use Rattle.port.specs.Remote.{localNow}
+use Rattle.port.specs.Out.{plain, opened, tagged, outcome, planned, accepted, outPlan}
+use Rattle.port.specs.In.{Answer, Said, number, says, refuse, inRules, send, poll}
+use Rattle.port.specs.Rows.{abortRules, inTag, initiateAbortOut, initiateAbortIn, checkAbortOut, checkAbortIn, clearing, initiateClear, checkClear, clearFeatureOut, answerRow}
+use Rattle.port.specs.Device.{Device, Result, isSound, heldOf, zeroed, made, powerOn}
+use Rattle.port.specs.Calls.{refused, said, carriedOut, bulkOut, bulkIn, setupRules, served, wiped, answered, setup, takeRules, released, taking, take-message, offerRules, offerPlan, offer, thermostatRules, statusSet, setStatus, returned, panel, busRules, busReset, suspended, suspend}
+use Rattle.port.specs.Step.{Call, setup-packet, out-packet, in-poll, take-into, offer-reply, set-status, front-panel, bus-reset, bus-suspend, step}
+use Rattle.port.specs.Laws.{Stored}
+use Rattle.port.specs.declared.types.Setting.{Setting}
+use Rattle.port.specs.declared.types.BulkOut.{BulkOut}
+use Rattle.port.specs.declared.types.Split.{Split}
+use Rattle.port.specs.declared.types.Split.the-variants.{None, AbortOut, AbortIn, Clear}
+use Rattle.port.specs.declared.types.State.{State}
+use Rattle.port.specs.declared.types.Plan.{Plan}
+use Rattle.port.specs.declared.types.Outcome.{Outcome}
+use Rattle.port.specs.declared.types.Outcome.the-variants.{Keep, Halt, Data, Accept}
+use Rattle.port.proofs.Soundness.{OutSound, sound-of}
+use Rattle.port.proofs.Calls.{power-on-sound, keeps-sound, keeps-stored}
+use Rattle.claims.specs.Wire.{trace, Line, free, History, Heard, nothing, data-bytes, broken-off, wiped-out, handed-over, carried, heardPacket, heard, joined, emptied, remembered, Legal, begun}
+use Rattle.claims.specs.Claims.{NoHalfCommand, NoHalfCommandEver}
+use Rattle.claims.proofs.Setups.{inRow, Told, told, heard-done, heard-refused}
+use Rattle.claims.proofs.Packets.{Facts, outcome-facts, passing}
+use Rattle.claims.proofs.Agreement.{come, Agree, After, after-by, free-line, open-line, unheard, wiped-after, broken-after, taken-after, data-after, begun-agrees}
+
+-- a call with its result: what is heard of it is allowed, and agrees with the unit that comes back
+abbrev Goes : History → Call → Result → Type 0
+Goes h c r = After h (heard (h .line) c (r .answer)) (outOf (r .unit .state)) (r .unit .message)
+
+module _ (u : Device) (h : History) (stored : Stored u) (s : OutSound (outOf (u .state))) (a : Agree (outOf (u .state)) (u .message) h) where
+  abbrev st : State
+  st = u .state
+
+  still : After h nothing (outOf st) (u .message)
+  still = unheard (outOf st) (u .message) h a
+
+  breaks : (halted : ℕ) → After h broken-off (broken halted (outOf st)) (u .message)
+  breaks halted = broken-after (outOf st) (u .message) h s a halted
+
+  -- ** setup rows
+
+  abbrev Rows : (Answer → Heard) → Said → Type 0
+  Rows heeds r = (r .answer .number ≡ DONE) × After h (heeds (r .answer)) (outOf (r .state)) (u .message)
+
+  abbrev Quiet : Said → Type 0
+  Quiet r = Rows (λ _. nothing) r
+
+  -- a status that is not SUCCESS, and SUCCESS
+  failing : (x : Heard) (status : ℕ) → (status =ᵇ 1) ≡ false → After h (pick (status =ᵇ 1) x nothing) (outOf st) (u .message)
+  failing x status e = after-by h (outOf st) _ nothing (u .message) _ (at-false _ _ _ e) refl still
+
+  succeeds : (x : Heard) (o : BulkOut) → After h x o (u .message) → After h (pick (SUCCESS =ᵇ 1) x nothing) o (u .message)
+  succeeds x o k = after-by h o _ x (u .message) _ (at-true _ _ _ refl) refl k
+
+  row-goes : (row : Row) → Rows (inRow row) (answerRow st row)
+  unfolding answerRow initiateAbortOut initiateAbortIn checkAbortOut checkAbortIn initiateClear clearing checkClear clearFeatureOut localNow
+  row-goes (InitiateAbortBulkOut tag) =
+      decide-all (Rows (inRow (InitiateAbortBulkOut tag))) (λ status. says st (status ∷ outOf st .recent ∷ [])) (abortRules (st .split) (isOpenOut (outOf st)) (outOf st .recent) tag) _
+      ((refl, failing broken-off SPLIT-IN-PROGRESS refl), ((refl, failing broken-off FAILED refl), ((refl, failing broken-off TRANSFER-NOT-IN-PROGRESS refl), tt)))
+      (λ _. (refl, succeeds broken-off _ (breaks ON)))
+  row-goes CheckAbortBulkOutStatus = by (st .split)
+    where
+      by : (split : Split) → Quiet (checkAbortOut st split)
+      by None = (refl, still)
+      by (AbortOut count) = (refl, still)
+      by (AbortIn count) = (refl, still)
+      by Clear = (refl, still)
+  row-goes (InitiateAbortBulkIn tag) =
+      decide-all Quiet (λ status. says st (status ∷ inTag (inOf st) ∷ [])) (abortRules (st .split) (isOpenIn (inOf st)) (inTag (inOf st)) tag) _
+      ((refl, still), ((refl, still), ((refl, still), tt))) (λ _. (refl, still))
+  row-goes CheckAbortBulkInStatus = by (st .split)
+    where
+      by : (split : Split) → Quiet (checkAbortIn st split)
+      by None = (refl, still)
+      by (AbortOut count) = (refl, still)
+      by (AbortIn count) = pick-all Quiet (isOwed (inOf st)) _ _ (λ _. (refl, still)) (λ _. (refl, still))
+      by Clear = (refl, still)
+  row-goes InitiateClear =
+      pick-all (Rows (inRow InitiateClear)) (isClear (st .split)) _ _ (λ _. (refl, failing wiped-out SPLIT-IN-PROGRESS refl))
+      (λ _. (refl, succeeds wiped-out _ (wiped-after (outOf st) (u .message) h ON 0)))
+  row-goes CheckClearStatus =
+      pick-all Quiet (no (isClear (st .split))) _ _ (λ _. (refl, still)) (λ _. pick-all Quiet (isOwed (inOf st)) _ _ (λ _. (refl, still)) (λ _. (refl, still)))
+  row-goes GetCapabilities = (refl, still)
+  row-goes IndicatorPulse = (refl, still)
+  row-goes (ReadStatusByte tag) = (refl, still)
+  row-goes (RenControl ren) = (refl, pick-all (λ (t : State). After h nothing (outOf t) (u .message)) (on ren) _ _ (λ _. still) (λ _. still))
+  row-goes GoToLocal = (refl, still)
+  row-goes LocalLockout = (refl, still)
+  row-goes (ClearFeature Out) = (refl, breaks _)
+  row-goes (ClearFeature In) = (refl, still)
+  row-goes (SetFeature Out) = (refl, breaks ON)
+  row-goes (SetFeature In) = (refl, still)
+  row-goes (GetStatus Out) = (refl, still)
+  row-goes (GetStatus In) = (refl, still)
+
+  module _ (p : List ℕ) (room : ℕ) where
+    abbrev packet : Call
+    packet = setup-packet p room
+
+    refusing : (n : ℕ) → (n =ᵇ 0) ≡ false → Goes h packet (refused u n)
+    unfolding heard
+    refusing n e = after-by h (outOf st) _ nothing (u .message) _ (heard-refused p _ e) refl still
+
+    answers : (x : Setup) → Told p x → Goes h packet (answered u x)
+    unfolding heard answered served wiped fresh
+    answers (Configure value) k = after-by h _ _ wiped-out zeroed _ (heard-done p (number DONE) refl ∙ k (number DONE)) refl (wiped-after (outOf st) zeroed h OFF 0)
+    answers (Asks row) k =
+        pick-all (λ (r : Said). Goes h packet (said u r)) (isConfigured st) _ _
+        (λ _. let g = row-goes row in after-by h _ _ (inRow row (answerRow st row .answer)) (u .message) _ (heard-done p _ (g .0) ∙ k _) refl (g .1))
+        (λ _. refusing NO-ROW refl)
+    answers NoRow k = refusing NO-ROW refl
+
+    setup-goes : Goes h packet (setup u p room)
+    unfolding setup
+    setup-goes = decide-all (Goes h packet) (refused u) (setupRules st (length p) room) _ (refusing UNSOUND refl, (refusing WRONG-SIZE refl, tt)) (λ _. answers (readSetup p) (told p))
+
+  -- ** Bulk-OUT
+
+  module _ (p : List ℕ) where
+    -- nothing is put into the store
+    unput : u .message ≡ paste (u .message) (outOf st .held) p 0
+    unput = paste-zero (u .message) (outOf st .held) p
+
+    is-free : outOf st .left ≡ 0 → h .line ≡ free
+    is-free e = free-line (outOf st .left) (on (outOf st .end)) (h .line) (a .line) e
+
+    -- between transfers
+    free-passing : h .line ≡ free → heardPacket (h .line) p DONE ≡ carried free p
+    free-passing e = ap (λ (l : Line). heardPacket l p DONE) e ∙ passing p free
+
+    -- the tag alone changes
+    tags : (tag : ℕ) → After h nothing (tagged (outOf st) tag) (u .message)
+    tags tag = unheard (tagged (outOf st) tag) (u .message) h (record { ready = a .ready; line = a .line; bytes = a .bytes })
+
+    comes : (x : Outcome) → Facts st p x → Goes h (out-packet p) (carriedOut u p (planned st x))
+    unfolding heard planned accepted
+    comes (Keep n) f = after-by h (outOf st) _ nothing (u .message) _ (f (h .line) is-free) unput still
+    comes (Halt n) f = after-by h _ _ broken-off (u .message) _ (f (h .line)) unput (breaks ON)
+    comes (Data count) f =
+        after-by h _ _ (data-bytes (outOf st .left) (come (h .line)) (on (outOf st .end)) (take (outOf st .left) p)) _ _
+        (passing p (h .line) ∙ open-line (outOf st .left) (on (outOf st .end)) (h .line) p (a .line) (f .1)) refl
+        (data-after (outOf st) (u .message) p (come (h .line)) count h (stored .message) room (f .2) (sym (a .ready) ∙ f .0) (a .bytes))
+      where
+        room : outOf st .held + outOf st .left ≤ STORE
+        room = ⊎-elim (λ w. w .1 .room) (λ w. absurd (f .1 (w .0))) s
+    comes (Accept (Message tag size end) count) f =
+        after-by h _ _ (data-bytes size [] (on end) (take size (drop HEADER p))) _ _ (free-passing (is-free (f .1)) ∙ f .4) refl
+        (data-after (opened (outOf st) tag size end) (u .message) (drop HEADER p) [] count h (stored .message) (f .2)
+        (f .3 ∙ ap (λ (n : ℕ). min size n) (sym (length-drop HEADER p))) (sym (a .ready) ∙ f .0) (a .bytes ∙ ap (λ (l : Line). joined (h .transfers) ++ come l) (is-free (f .1))))
+    comes (Accept (Request tag size enabled term) count) f = after-by h _ _ nothing (u .message) _ (free-passing (is-free (f .1)) ∙ f .4) unput (tags tag)
+    comes (Accept (Trigger tag) count) f = after-by h _ _ nothing (u .message) _ (free-passing (is-free (f .1)) ∙ f .4) unput (tags tag)
+
+    out-goes : Goes h (out-packet p) (bulkOut u p)
+    unfolding bulkOut outPlan
+    out-goes = comes (outcome st p) (outcome-facts st p)
+
+  -- ** the other calls
+
+  take-goes : (room : ℕ) → Goes h (take-into room) (take-message u room)
+  unfolding heard take-message taking
+  take-goes room =
+      decide-all (λ (r : Said). Goes h (take-into room) (said u r)) (refuse st) (takeRules st room) _
+      (refusing UNSOUND refl, (refusing UNCONFIGURED refl, (refusing NOT-NOW refl, (refusing WRONG-SIZE refl, tt))))
+      (λ n. given (not-no _ (n .1 .1 .0)))
+    where
+      refusing : (n : ℕ) → (n =ᵇ 0) ≡ false → After h (pick (n =ᵇ 0) (handed-over []) nothing) (outOf st) (u .message)
+      refusing n e = after-by h (outOf st) _ nothing (u .message) _ (at-false _ _ _ e) refl still
+
+      given : on (outOf st .ready) ≡ true → After h (pick (DONE =ᵇ 0) (handed-over (heldOf u)) nothing) (released (outOf st)) (u .message)
+      given e = after-by h _ _ (handed-over (heldOf u)) (u .message) _ (at-true _ _ _ refl) refl (taken-after (outOf st) (u .message) h s a e)
+
+  -- what is heard of a poll, and what it leaves of the message
+  abbrev Leaves : Said → Type 0
+  Leaves r = After h nothing (outOf (r .state)) (u .message)
+
+  poll-goes : (room : ℕ) → Goes h (in-poll room) (bulkIn u room)
+  unfolding heard bulkIn poll send
+  poll-goes room =
+      decide-all Leaves (refuse st) (inRules st room) _ (still, (still, (still, (still, (still, tt))))) (λ _. pick-all Leaves (isOwed (inOf st)) _ _ (λ _. still) (λ _. still))
+
+  offer-goes : (bytes : List ℕ) → Goes h (offer-reply bytes) (offer u bytes)
+  unfolding heard offer offerPlan
+  offer-goes bytes = decide-all (λ (p : Plan). After h nothing (outOf (p .state)) (u .message)) (plain st) (offerRules st (length bytes)) _ (still, (still, (still, (still, tt)))) (λ _. still)
+
+  reset-goes : Goes h bus-reset (busReset u)
+  unfolding heard busReset answered served wiped fresh
+  reset-goes =
+      decide-all (Goes h bus-reset) (refused u) (busRules st) _ (after-by h (outOf st) _ nothing (u .message) _ (at-false _ _ _ refl) refl still, tt)
+      (λ _. after-by h _ _ wiped-out zeroed _ (at-true _ _ _ refl) refl (wiped-after (outOf st) zeroed h OFF 0))
+
+  goes : (c : Call) → Goes h c (step u c)
+  unfolding step heard setStatus statusSet panel returned suspend suspended localNow
+  goes (setup-packet p room) = setup-goes p room
+  goes (out-packet p) = out-goes p
+  goes (in-poll room) = poll-goes room
+  goes (take-into room) = take-goes room
+  goes (offer-reply bytes) = offer-goes bytes
+  goes (set-status status) = decide-all Leaves (refuse st) (thermostatRules st) _ (still, (still, tt)) (λ _. still)
+  goes front-panel = decide-all Leaves (refuse st) (thermostatRules st) _ (still, (still, tt)) (λ _. still)
+  goes bus-reset = reset-goes
+  goes bus-suspend = decide-all Leaves (refuse st) (busRules st) _ (still, tt) (λ _. still)
+
+-- ** the theorems
+
+legal : (calls : List Call) (u : Device) (h : History) → Stored u → isSound u ≡ true → Agree (outOf (u .state)) (u .message) h → Legal h (trace step u calls)
+unfolding trace
+legal [] u h st so a = tt
+legal (c ∷ calls) u h st so a =
+    let g = goes u h st (sound-of _ so .out) a c in
+    (g .0, legal calls (step u c .unit) (remembered h (heard (h .line) c (step u c .answer))) (keeps-stored u c st) (keeps-sound u c so) (g .1))
+
+pub no-half-command : NoHalfCommand step
+no-half-command u calls st so = legal calls u (begun u) st so (begun-agrees u (sound-of _ so .out))
+
+-- power-on has both stores, and holds nothing
+power-on-stored : (setting : Setting) → Stored (powerOn setting .unit)
+unfolding powerOn made zeroed
+power-on-stored setting = pick-all (λ (r : Result). Stored (r .unit)) (isSize (setting .packet)) _ _ (λ _. zeros _) (λ _. zeros _)
+  where
+    zeros : (setting : Setting) → Stored (made setting OFF)
+    zeros setting = record { message = length-replicate {A = ℕ} STORE 0; reply = length-replicate {A = ℕ} STORE 0 }
+
+power-on-agrees : (setting : Setting) → Agree (outOf (powerOn setting .unit .state)) (powerOn setting .unit .message) emptied
+unfolding powerOn made fresh
+power-on-agrees setting =
+    pick-all (λ (r : Result). Agree (outOf (r .unit .state)) (r .unit .message) emptied) (isSize (setting .packet)) _ _
+    (λ _. record { ready = refl; line = refl; bytes = refl }) (λ _. record { ready = refl; line = refl; bytes = refl })
+
+pub no-half-command-ever : NoHalfCommandEver step
+no-half-command-ever setting calls = legal calls (powerOn setting .unit) emptied (power-on-stored setting) (power-on-sound setting) (power-on-agrees setting)

@@ -1,0 +1,1 @@
+// What is claimed of the port: definitions and proofs alone.
