@@ -13,7 +13,7 @@ use Rattle.port.specs.Step.{Call, setup-packet, take-into, Stepping, step, run,
 use Rattle.port.specs.Live.{live}
 use Rattle.port.specs.Survivors.{survivors}
 use Rattle.port.specs.Lists.{ownList}
-use Rattle.port.specs.Laws.{OneOf, Stored, CHECK-CLEAR-STATUS, success}
+use Rattle.port.specs.Laws.{OneOf, Stored, CHECK-CLEAR-STATUS, success, ClearReached}
 use Rattle.port.specs.declared.types.Setting.{Setting}
 use Rattle.claims.specs.Wire.{trace, Legal, begun, emptied}
 use Rattle.claims.specs.Command.{Piece, command, Good, sending, packetsAmong, Undisturbed, Accepted, Waiting}
@@ -67,7 +67,7 @@ CleanAfterAnyFault does = (setting : Setting) (before later : List Call) (contro
     → does (after does (powerOn setting .unit) before) (setup-packet CHECK-CLEAR-STATUS control) .answer ≡ success
     → Clean does (after does (powerOn setting .unit) before) control later
 
--- and then: SUCCESS, CLEAR_FEATURE on 0x01, a whole command, taken
+-- that SUCCESS is reached, after at most one poll, is the law ClearReached; and then: SUCCESS, CLEAR_FEATURE on 0x01, a whole command, taken
 abbrev pub CommandAfterClear : Stepping → Type 0
 CommandAfterClear does = (u : Device) (control : ℕ) (pieces : List Piece) (calls : List Call) (room : ℕ) → Stored u → isSound u ≡ true
     → does u (setup-packet CHECK-CLEAR-STATUS control) .answer ≡ success
@@ -84,5 +84,6 @@ RuleForEvery does = (u : Device) (c : Call) → OneOf (does u c .answer .number)
 pub record Claimed (does : Stepping) : Type 0 where
   pub no-half-command : NoHalfCommand does
   pub whole-command : WholeCommand does
+  pub clear-reached : ClearReached does
   pub clean-after-fault : CleanAfterFault does
   pub rule-for-every : RuleForEvery does
