@@ -12,58 +12,41 @@ ghost use mathlib.Core.Path.{_≡_};
 ghost use Prim.Native.Nat.{ℕ};
 ghost use Rattle.port.specs.Parts.{isNone, isClear, keepsHalt, withSplit, isOpenOut, isOpenIn, withPort, withOut, withIn, withRemote, withRen, withStatus, withInHalted, emptyOut, emptyIn, fresh, broken, shut};
 
-pub fn with_port(st: State, port: Port) -> State
-    ensures { λ r. ⌜ r ≡ withPort st port ⌝ }
+// The small parts set, the split and the remote/local state kept.
+fn with_small(st: State, small: Small) -> State
+    ensures { λ r. ⌜ r ≡ record { small = small; split = st .split; remote = st .remote } ⌝ }
 {
-    let bulkout = st.small.bulkout;
-    let bulkin = st.small.bulkin;
     let split = st.split;
     let remote = st.remote;
     State {
-        small: Small {
-            port,
-            bulkout,
-            bulkin,
-        },
+        small,
         split,
         remote,
     }
+}
+
+pub fn with_port(st: State, port: Port) -> State
+    ensures { λ r. ⌜ r ≡ withPort st port ⌝ }
+{
+    let mut small = st.small;
+    small.port = port;
+    with_small(st, small)
 }
 
 pub fn with_out(st: State, bulkout: BulkOut) -> State
     ensures { λ r. ⌜ r ≡ withOut st bulkout ⌝ }
 {
-    let port = st.small.port;
-    let bulkin = st.small.bulkin;
-    let split = st.split;
-    let remote = st.remote;
-    State {
-        small: Small {
-            port,
-            bulkout,
-            bulkin,
-        },
-        split,
-        remote,
-    }
+    let mut small = st.small;
+    small.bulkout = bulkout;
+    with_small(st, small)
 }
 
 pub fn with_in(st: State, bulkin: BulkIn) -> State
     ensures { λ r. ⌜ r ≡ withIn st bulkin ⌝ }
 {
-    let port = st.small.port;
-    let bulkout = st.small.bulkout;
-    let split = st.split;
-    let remote = st.remote;
-    State {
-        small: Small {
-            port,
-            bulkout,
-            bulkin,
-        },
-        split,
-        remote,
-    }
+    let mut small = st.small;
+    small.bulkin = bulkin;
+    with_small(st, small)
 }
 
 pub fn with_split(st: State, split: Split) -> State
