@@ -1,0 +1,5 @@
+-- Laws that belong to no one function.
+pub mod AtExit
+pub mod Fields
+pub mod Locals
+pub mod Public

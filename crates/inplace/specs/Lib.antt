@@ -1,0 +1,2 @@
+-- What the calls in place promise.
+pub mod InPlace
