@@ -13,8 +13,11 @@ use rules::WRONG_SIZE;
 use state::parts::is_clear;
 use state::parts::with_in;
 use state::sound::sound;
+use wire::copies::copy_in;
 ghost use mathlib.Core.Path.{_≡_};
 ghost use Prim.Native.Nat.{ℕ, _+_, _≤_};
+ghost use lib.ListN.{length, drop};
+ghost use lib.Seq.{paste};
 ghost use Rattle.rules.specs.Choice.{first, _=ᵇ_, _<ᵇ_, _or_};
 ghost use Rattle.port.specs.Parts.{hasReply, isClear};
 ghost use Rattle.port.specs.Calls.{offerRules, offered, offerPlan};
@@ -114,4 +117,16 @@ pub fn offer_plan(st: State, n: usize) -> Plan
         from: 0,
         count: n,
     }
+}
+
+// The bytes go into a store at `at`, where the reply begins.
+pub fn offer_into(store: &mut [u8], at: usize, st: State, bytes: &[u8]) -> Plan
+    requires { ⌜ at + 1024 ≤ length (now store) ⌝ }
+    ensures { λ r. ⌜ (r ≡ offerPlan st (length (now (bytes .entry)))) × (r .from + r .count ≤ length (now (bytes .entry))) × (r .count ≤ 1024) × (now (store .exit) ≡ paste (now (store .entry)) at (drop (r .from) (now (bytes .entry))) (r .count)) ⌝ }
+{
+    let plan = offer_plan(st, bytes.len());
+    let from = plan.from;
+    let count = plan.count;
+    copy_in(store, at, bytes, from, count);
+    plan
 }

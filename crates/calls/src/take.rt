@@ -14,7 +14,7 @@ use state::sound::sound;
 use wire::copies::copy_in;
 use wire::numbers::widened;
 ghost use mathlib.Core.Path.{_≡_};
-ghost use Prim.Native.Nat.{ℕ};
+ghost use Prim.Native.Nat.{ℕ, _≤_};
 ghost use lib.ListN.{length};
 ghost use Rattle.rules.specs.Choice.{first};
 ghost use Rattle.port.specs.Device.{heldIn};
@@ -50,7 +50,9 @@ fn released(o: BulkOut) -> BulkOut
     next
 }
 
-pub fn take_step(message: &[u8; 1024], st: State, b: &mut [u8]) -> Given
+// From a store that begins with the message.
+pub fn take_from(message: &[u8], st: State, b: &mut [u8]) -> Given
+    requires { ⌜ 1024 ≤ length (now message) ⌝ }
     ensures { λ r. ⌜ Hands (taking st (heldIn (st .small .bulkout) (now (message .entry))) (length (now (b .entry)))) r (now (b .entry)) (now (b .exit)) ⌝ }
 {
     let number = take_gate(st, b.len());
@@ -67,4 +69,10 @@ pub fn take_step(message: &[u8; 1024], st: State, b: &mut [u8]) -> Given
         tells: TELLS_NOTHING,
         len,
     }
+}
+
+pub fn take_step(message: &[u8; 1024], st: State, b: &mut [u8]) -> Given
+    ensures { λ r. ⌜ Hands (taking st (heldIn (st .small .bulkout) (now (message .entry))) (length (now (b .entry)))) r (now (b .entry)) (now (b .exit)) ⌝ }
+{
+    take_from(message, st, b)
 }

@@ -1,2 +1,3 @@
 // Bulk-OUT in code, decided over the small state by value.
 pub mod out; // a Bulk-OUT packet
+pub mod store; // a packet with its data put into a store

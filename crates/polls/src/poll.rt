@@ -221,8 +221,9 @@ fn packet(reply: &[u8], st: State, buf: &mut [u8]) -> Given
     carry(reply, st, b, 0, buf)
 }
 
-// A poll: the step that the by-value call and the in-place form share.
-pub fn poll_step(reply: &[u8; 1024], st: State, b: &mut [u8]) -> Given
+// A poll, whose packet is cut from a store that begins with the reply.
+pub fn poll_from(reply: &[u8], st: State, b: &mut [u8]) -> Given
+    requires { ⌜ 1024 ≤ length (now reply) ⌝ }
     ensures { λ r. ⌜ Hands (poll st (unsentIn (st .small .bulkin) (now (reply .entry))) (length (now (b .entry)))) r (now (b .entry)) (now (b .exit)) ⌝ }
 {
     let number = in_gate(st, b.len());
@@ -245,4 +246,11 @@ pub fn poll_step(reply: &[u8; 1024], st: State, b: &mut [u8]) -> Given
         };
     }
     packet(reply, st, b)
+}
+
+// The step that the by-value call and the in-place form share.
+pub fn poll_step(reply: &[u8; 1024], st: State, b: &mut [u8]) -> Given
+    ensures { λ r. ⌜ Hands (poll st (unsentIn (st .small .bulkin) (now (reply .entry))) (length (now (b .entry)))) r (now (b .entry)) (now (b .exit)) ⌝ }
+{
+    poll_from(reply, st, b)
 }

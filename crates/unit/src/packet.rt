@@ -1,11 +1,9 @@
 // A Bulk-OUT packet: the step that the by-value call and the in-place form share, and the by-value call.
 use crate::types::Done;
 use crate::types::Unit;
-use packets::out::out_plan;
+use packets::store::packet_into;
 use port::types::Plan;
 use port::types::State;
-use wire::copies::copy_in;
-use wire::numbers::widened;
 ghost use mathlib.Core.Path.{_≡_};
 ghost use lib.ListN.{length, drop};
 ghost use lib.Seq.{paste};
@@ -17,15 +15,7 @@ ghost use Rattle.unit.specs.Promise.{deviceOf, doneOf};
 pub fn packet_step(message: &mut [u8; 1024], st: State, s: &[u8]) -> Plan
     ensures { λ r. ⌜ (r ≡ outPlan st (now (s .entry))) × (now (message .exit) ≡ paste (now (message .entry)) (st .small .bulkout .held) (drop (r .from) (now (s .entry))) (r .count)) ⌝ }
 {
-    let plan = out_plan(st, s);
-    let held = widened(st.small.bulkout.held);
-    let from = plan.from;
-    let count = plan.count;
-    if count != 0 {
-        copy_in(message, held, s, from, count);
-        return plan;
-    }
-    plan
+    packet_into(message, st, s)
 }
 
 impl Unit {

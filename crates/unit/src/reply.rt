@@ -1,10 +1,9 @@
 // A reply is offered.
 use crate::types::Done;
 use crate::types::Unit;
-use calls::offer::offer_plan;
+use calls::offer::offer_into;
 use port::types::Plan;
 use port::types::State;
-use wire::copies::copy_in;
 ghost use mathlib.Core.Path.{_≡_};
 ghost use lib.ListN.{length, drop};
 ghost use lib.Seq.{paste};
@@ -15,11 +14,7 @@ ghost use Rattle.unit.specs.Promise.{deviceOf, doneOf};
 pub fn offer_step(reply: &mut [u8; 1024], st: State, bytes: &[u8]) -> Plan
     ensures { λ r. ⌜ (r ≡ offerPlan st (length (now (bytes .entry)))) × (now (reply .exit) ≡ paste (now (reply .entry)) 0 (drop (r .from) (now (bytes .entry))) (r .count)) ⌝ }
 {
-    let plan = offer_plan(st, bytes.len());
-    let from = plan.from;
-    let count = plan.count;
-    copy_in(reply, 0, bytes, from, count);
-    plan
+    offer_into(reply, 0, st, bytes)
 }
 
 impl Unit {

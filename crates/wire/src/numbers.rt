@@ -1,6 +1,6 @@
 // Numbers of two and four bytes, least significant first, and runs of zero bytes.
 ghost use mathlib.Core.Path.{_≡_};
-ghost use Prim.Native.Nat.{ℕ, _+_, _<_, _≤_, min};
+ghost use Prim.Native.Nat.{ℕ, _+_, _/_, _%_, _<_, _≤_, min};
 ghost use lib.ListN.{length};
 ghost use Rattle.wire.specs.Bytes.{number2, number4, bytes4, zeros};
 
@@ -62,15 +62,27 @@ pub fn all_zero(s: &[u8], a: usize, e: usize) -> bool
     true
 }
 
+// The low byte of a number, and the one above it.
+pub fn low(n: u32) -> u8
+    ensures { λ r. ⌜ r ≡ n % 256 ⌝ }
+{
+    (n % 256) as u8
+}
+
+pub fn high(n: u32) -> u8
+    ensures { λ r. ⌜ r ≡ n / 256 % 256 ⌝ }
+{
+    (n / 256 % 256) as u8
+}
+
 // The four bytes of a number.
 pub fn bytes_of(n: u32) -> [u8; 4]
     ensures { λ r. ⌜ r ≡ bytes4 n ⌝ }
 {
-    let high = n / 65536;
-    [
-        (n % 256) as u8,
-        (n / 256 % 256) as u8,
-        (high % 256) as u8,
-        (high / 256 % 256) as u8,
-    ]
+    let upper = n / 65536;
+    let a = low(n);
+    let b = high(n);
+    let c = low(upper);
+    let d = high(upper);
+    [a, b, c, d]
 }

@@ -5,22 +5,26 @@ use Rattle.wire.proofs.numbers.bytes_of.Statement.{statement}
 use Rattle.wire.proofs.numbers.bytes_of.Tie as tie
 use Rattle.wire.proofs.numbers.bytes_of.Reads as reads
 use Rattle.wire.proofs.numbers.bytes_of.Lts as lts
+use Rattle.wire.proofs.numbers.high.Reads as high-reads
+use Rattle.wire.proofs.numbers.low.Reads as low-reads
 
-cast-t4 : tie.Need-cast-t4
-cast-t4 c = search needs
+low-requires : tie.Need-low-requires
+low-requires c κs = search needs
 
-cast-t7 : tie.Need-cast-t7
-cast-t7 c = search needs
+high-requires : tie.Need-high-requires
+high-requires c κs = search needs
 
-cast-t9 : tie.Need-cast-t9
-cast-t9 c = search needs
+low-requires-2 : tie.Need-low-requires-2
+low-requires-2 c κs = search needs
 
-cast-t12 : tie.Need-cast-t12
-cast-t12 c = search needs
+high-requires-2 : tie.Need-high-requires-2
+high-requires-2 c κs = search needs
 
 returns : tie.Need-returns
 unfolding bytes4
-returns c = refl
+returns c =
+    rw (c .high2 .ensures, c .before .low2 .ensures, c .before .before .high .ensures, c .before .before .before .low .ensures) refl
 
 pub bytes-of-spec : {M : Type 1} → statement M
-bytes-of-spec = tie.close (tie.spec cast-t4 cast-t7 cast-t9 cast-t12 returns)
+bytes-of-spec =
+    tie.close (tie.spec low-requires high-requires low-requires-2 high-requires-2 returns)

@@ -1,0 +1,2 @@
+-- The unit as C holds it.
+pub mod Flat

@@ -1,0 +1,2 @@
+-- What a call from C promises.
+pub mod Promise
