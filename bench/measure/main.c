@@ -1,0 +1,72 @@
+/* Makes each measured call on both sides, and writes a line for it with the numbers of its two regions; the plugin counts them.
+   The parts of a line are divided by tabs. */
+#include "cases.h"
+#include "invoke.h"
+
+#include <stdio.h>
+#include <stdlib.h>
+#include <string.h>
+
+static void write_sizes(void)
+{
+    printf("unit\t%zu\t%zu\n", sizeof(struct tmc_unit), sizeof(struct plain_unit));
+}
+
+static void write_empty_call(void)
+{
+    struct invocation invocation = {(uintptr_t)return_at_once, {0}};
+    struct result result = invoke(&invocation);
+
+    printf("empty\t%u\t%zu\n", result.region, result.stack);
+}
+
+/* Units that no one has powered on. */
+static struct pair unused_pair(const char *name)
+{
+    struct pair pair;
+
+    memset(&pair.port, 0xA5, sizeof pair.port);
+    memset(&pair.plain, 0xA5, sizeof pair.plain);
+    pair.name = name;
+    return pair;
+}
+
+static void require_number(const char *name, uint8_t number, uint8_t expected)
+{
+    if (number == expected)
+        return;
+    fprintf(stderr, "%s is answered %u, not %u as the case says\n", name, number, expected);
+    exit(1);
+}
+
+static void measure(const struct measured_case *it, uint16_t size)
+{
+    struct pair pair;
+    struct call call;
+    struct made made;
+    char name[64];
+
+    snprintf(name, sizeof name, it->both_sizes ? "%s-%u" : "%s", it->name, size);
+    pair = unused_pair(name);
+    call = power_on(size);
+    require_number(name, pair_call(&pair, &call).number, TMC_DONE);
+    call = it->reach(&pair, size);
+    made = pair_call(&pair, &call);
+    require_number(name, made.number, it->number);
+    printf("call\t%s\t%s\t%s\t%s\t%u\t%zu\t%u\t%zu\t%u\t%zu\n", it->group, name, it->title,
+           it->both_sizes ? size == TMC_FULL_SPEED ? "64" : "512" : "-", made.number,
+           call.kind == BULK_OUT ? call.length : made.length, made.port.region, made.port.stack, made.plain.region,
+           made.plain.stack);
+}
+
+int main(void)
+{
+    write_sizes();
+    write_empty_call();
+    for (size_t i = 0; i < case_count; i++) {
+        measure(&cases[i], TMC_FULL_SPEED);
+        if (cases[i].both_sizes)
+            measure(&cases[i], TMC_HIGH_SPEED);
+    }
+    return 0;
+}
