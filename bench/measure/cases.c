@@ -18,9 +18,20 @@
 #define CLASS_ENDPOINT 0xA2
 
 /* The data bytes of a full packet with a header. */
-static size_t first_data(uint16_t size)
+static size_t first_data(const struct pair *pair)
 {
-    return size - HEADER;
+    return pair->packet_size - HEADER;
+}
+
+/* A packet full of data. */
+static struct call full_packet(const struct pair *pair)
+{
+    return continuing(pair->packet_size);
+}
+
+static struct call next_poll(const struct pair *pair)
+{
+    return poll(pair->packet_size);
 }
 
 static void do_call(struct pair *pair, struct call call)
@@ -62,10 +73,10 @@ static void configure(struct pair *pair)
     do_call(pair, set_configuration());
 }
 
-static void begin_longest_message(struct pair *pair, uint16_t size)
+static void begin_longest_message(struct pair *pair)
 {
     configure(pair);
-    do_call(pair, message(1, LONGEST, true, first_data(size)));
+    do_call(pair, message(1, LONGEST, true, first_data(pair)));
 }
 
 /* A message in one packet. */
@@ -75,13 +86,13 @@ static void send_short_message(struct pair *pair, size_t length)
     do_call(pair, message(1, length, true, length));
 }
 
-static void send_longest_message(struct pair *pair, uint16_t size)
+static void send_longest_message(struct pair *pair)
 {
-    size_t left = LONGEST - first_data(size);
+    size_t left = LONGEST - first_data(pair);
 
-    begin_longest_message(pair, size);
-    for (; left > size; left -= size)
-        do_call(pair, continuing(size));
+    begin_longest_message(pair);
+    for (; left > pair->packet_size; left -= pair->packet_size)
+        do_call(pair, full_packet(pair));
     do_call(pair, continuing(left));
 }
 
@@ -92,10 +103,10 @@ static void ask_for_reply(struct pair *pair, size_t reply)
     do_call(pair, request(1, LONGEST));
 }
 
-static void begin_reply(struct pair *pair, uint16_t size, size_t reply)
+static void begin_reply(struct pair *pair, size_t reply)
 {
     ask_for_reply(pair, reply);
-    do_call(pair, poll(size));
+    do_call(pair, next_poll(pair));
 }
 
 static void go_remote(struct pair *pair)
@@ -107,295 +118,276 @@ static void go_remote(struct pair *pair)
 
 /* Bulk-OUT. */
 
-static struct call out_first(struct pair *pair, uint16_t size)
+static struct call out_first(struct pair *pair)
 {
     configure(pair);
-    return message(1, LONGEST, true, first_data(size));
+    return message(1, LONGEST, true, first_data(pair));
 }
 
-static struct call out_next(struct pair *pair, uint16_t size)
+static struct call out_next(struct pair *pair)
 {
-    begin_longest_message(pair, size);
-    return continuing(size);
+    begin_longest_message(pair);
+    return full_packet(pair);
 }
 
-static struct call out_last(struct pair *pair, uint16_t size)
-{
-    configure(pair);
-    do_call(pair, message(1, first_data(size) + size, true, first_data(size)));
-    return continuing(size);
-}
-
-static struct call out_last_short(struct pair *pair, uint16_t size)
+static struct call out_last(struct pair *pair)
 {
     configure(pair);
-    do_call(pair, message(1, first_data(size) + 10, true, first_data(size)));
+    do_call(pair, message(1, first_data(pair) + pair->packet_size, true, first_data(pair)));
+    return full_packet(pair);
+}
+
+static struct call out_last_short(struct pair *pair)
+{
+    configure(pair);
+    do_call(pair, message(1, first_data(pair) + 10, true, first_data(pair)));
     return continuing(10);
 }
 
-static struct call out_whole(struct pair *pair, uint16_t size)
+static struct call out_whole(struct pair *pair)
 {
     configure(pair);
-    return message(1, first_data(size), true, first_data(size));
+    return message(1, first_data(pair), true, first_data(pair));
 }
 
-static struct call out_short(struct pair *pair, uint16_t size)
+static struct call out_short(struct pair *pair)
 {
-    (void)size;
     configure(pair);
     return message(1, 6, true, 6);
 }
 
-static struct call out_request(struct pair *pair, uint16_t size)
+static struct call out_request(struct pair *pair)
 {
-    (void)size;
     configure(pair);
     return request(1, LONGEST);
 }
 
-static struct call out_trigger(struct pair *pair, uint16_t size)
+static struct call out_trigger(struct pair *pair)
 {
-    (void)size;
     configure(pair);
     return trigger(1);
 }
 
-static struct call out_bad_tag(struct pair *pair, uint16_t size)
+static struct call out_bad_tag(struct pair *pair)
 {
-    struct call call = out_first(pair, size);
+    struct call call = out_first(pair);
 
     call.bytes[2] = 0xFF;
     return call;
 }
 
-static struct call out_halted(struct pair *pair, uint16_t size)
+static struct call out_halted(struct pair *pair)
 {
     configure(pair);
     do_call(pair, halt(OUT_ENDPOINT));
-    return message(1, LONGEST, true, first_data(size));
+    return message(1, LONGEST, true, first_data(pair));
 }
 
-static struct call out_wait(struct pair *pair, uint16_t size)
+static struct call out_wait(struct pair *pair)
 {
     send_short_message(pair, 6);
-    return message(2, LONGEST, true, first_data(size));
+    return message(2, LONGEST, true, first_data(pair));
 }
 
 /* Bulk-IN. */
 
-static struct call in_first(struct pair *pair, uint16_t size)
+static struct call in_first(struct pair *pair)
 {
     ask_for_reply(pair, LONGEST);
-    return poll(size);
+    return next_poll(pair);
 }
 
-static struct call in_next(struct pair *pair, uint16_t size)
+static struct call in_next(struct pair *pair)
 {
-    begin_reply(pair, size, LONGEST);
-    return poll(size);
+    begin_reply(pair, LONGEST);
+    return next_poll(pair);
 }
 
-static struct call in_last(struct pair *pair, uint16_t size)
+static struct call in_last(struct pair *pair)
 {
-    begin_reply(pair, size, 2 * first_data(size));
-    return poll(size);
+    begin_reply(pair, 2 * first_data(pair));
+    return next_poll(pair);
 }
 
-static struct call in_empty(struct pair *pair, uint16_t size)
+static struct call in_empty(struct pair *pair)
 {
-    begin_reply(pair, size, first_data(size));
-    return poll(size);
+    begin_reply(pair, first_data(pair));
+    return next_poll(pair);
 }
 
-static struct call in_whole(struct pair *pair, uint16_t size)
+static struct call in_whole(struct pair *pair)
 {
     ask_for_reply(pair, 20);
-    return poll(size);
+    return next_poll(pair);
 }
 
-static struct call in_term_char(struct pair *pair, uint16_t size)
+static struct call in_term_char(struct pair *pair)
 {
     configure(pair);
-    do_call(pair, offer_with_line_end(LONGEST, first_data(size) - 1));
+    do_call(pair, offer_with_line_end(LONGEST, first_data(pair) - 1));
     do_call(pair, request_to_line_end(1, LONGEST));
-    return poll(size);
+    return next_poll(pair);
 }
 
-static struct call in_no_term_char(struct pair *pair, uint16_t size)
+static struct call in_no_term_char(struct pair *pair)
 {
     configure(pair);
     do_call(pair, offer(LONGEST));
     do_call(pair, request_to_line_end(1, LONGEST));
-    return poll(size);
+    return next_poll(pair);
 }
 
-static struct call in_wait(struct pair *pair, uint16_t size)
+static struct call in_wait(struct pair *pair)
 {
     configure(pair);
-    return poll(size);
+    return next_poll(pair);
 }
 
-static struct call in_halted(struct pair *pair, uint16_t size)
+static struct call in_halted(struct pair *pair)
 {
     configure(pair);
     do_call(pair, halt(IN_ENDPOINT));
-    return poll(size);
+    return next_poll(pair);
 }
 
 /* Setup. */
 
-static struct call get_status(struct pair *pair, uint16_t size)
+static struct call get_status(struct pair *pair)
 {
-    (void)size;
     configure(pair);
     return setup(FROM_ENDPOINT, 0, 0, OUT_ENDPOINT, 2);
 }
 
-static struct call get_capabilities(struct pair *pair, uint16_t size)
+static struct call get_capabilities(struct pair *pair)
 {
-    (void)size;
     configure(pair);
     return setup(CLASS_INTERFACE, 7, 0, 0, 24);
 }
 
-static struct call abort_out(struct pair *pair, uint16_t size)
+static struct call abort_out(struct pair *pair)
 {
-    begin_longest_message(pair, size);
+    begin_longest_message(pair);
     return setup(CLASS_ENDPOINT, 1, 1, OUT_ENDPOINT, 2);
 }
 
-static struct call check_abort_out(struct pair *pair, uint16_t size)
+static struct call check_abort_out(struct pair *pair)
 {
-    begin_longest_message(pair, size);
+    begin_longest_message(pair);
     do_call(pair, setup(CLASS_ENDPOINT, 1, 1, OUT_ENDPOINT, 2));
     return setup(CLASS_ENDPOINT, 2, 0, OUT_ENDPOINT, 8);
 }
 
-static struct call abort_in(struct pair *pair, uint16_t size)
+static struct call abort_in(struct pair *pair)
 {
-    begin_reply(pair, size, LONGEST);
+    begin_reply(pair, LONGEST);
     return setup(CLASS_ENDPOINT, 3, 1, IN_ENDPOINT, 2);
 }
 
-static struct call clear(struct pair *pair, uint16_t size)
+static struct call clear(struct pair *pair)
 {
-    begin_reply(pair, size, LONGEST);
+    begin_reply(pair, LONGEST);
     return initiate_clear();
 }
 
-static struct call check_clear(struct pair *pair, uint16_t size)
+static struct call check_clear(struct pair *pair)
 {
-    (void)size;
     configure(pair);
     do_call(pair, initiate_clear());
     return setup(CLASS_INTERFACE, 6, 0, 0, 2);
 }
 
-static struct call clear_halt(struct pair *pair, uint16_t size)
+static struct call clear_halt(struct pair *pair)
 {
-    (void)size;
     configure(pair);
     do_call(pair, halt(OUT_ENDPOINT));
     return setup(TO_ENDPOINT, 1, 0, OUT_ENDPOINT, 0);
 }
 
-static struct call read_status_byte(struct pair *pair, uint16_t size)
+static struct call read_status_byte(struct pair *pair)
 {
-    (void)size;
     configure(pair);
     do_call(pair, set_status(0x51));
     return setup(CLASS_INTERFACE, 128, 2, 0, 3);
 }
 
-static struct call local_lockout(struct pair *pair, uint16_t size)
+static struct call local_lockout(struct pair *pair)
 {
-    (void)size;
     configure(pair);
     do_call(pair, ren_on());
     return setup(CLASS_INTERFACE, 162, 0, 0, 1);
 }
 
-static struct call configuration(struct pair *pair, uint16_t size)
+static struct call configuration(struct pair *pair)
 {
-    (void)pair, (void)size;
+    (void)pair;
     return set_configuration();
 }
 
-static struct call no_row(struct pair *pair, uint16_t size)
+static struct call no_row(struct pair *pair)
 {
-    (void)size;
     configure(pair);
     return setup(FROM_DEVICE, 6, 0x0100, 0, 18);
 }
 
 /* The instrument, and the bus. */
 
-static struct call take_short(struct pair *pair, uint16_t size)
+static struct call take_short(struct pair *pair)
 {
-    (void)size;
     send_short_message(pair, 9);
     return take(LONGEST);
 }
 
-static struct call take_longest(struct pair *pair, uint16_t size)
+static struct call take_longest(struct pair *pair)
 {
-    send_longest_message(pair, size);
+    send_longest_message(pair);
     return take(LONGEST);
 }
 
-static struct call take_nothing(struct pair *pair, uint16_t size)
+static struct call take_nothing(struct pair *pair)
 {
-    (void)size;
     configure(pair);
     return take(LONGEST);
 }
 
-static struct call offer_short(struct pair *pair, uint16_t size)
+static struct call offer_short(struct pair *pair)
 {
-    (void)size;
     configure(pair);
     return offer(20);
 }
 
-static struct call offer_longest(struct pair *pair, uint16_t size)
+static struct call offer_longest(struct pair *pair)
 {
-    (void)size;
     configure(pair);
     return offer(LONGEST);
 }
 
-static struct call status_byte(struct pair *pair, uint16_t size)
+static struct call status_byte(struct pair *pair)
 {
-    (void)size;
     configure(pair);
     return set_status(0x51);
 }
 
-static struct call panel(struct pair *pair, uint16_t size)
+static struct call panel(struct pair *pair)
 {
-    (void)size;
     go_remote(pair);
     return bare(PANEL);
 }
 
-static struct call suspend(struct pair *pair, uint16_t size)
+static struct call suspend(struct pair *pair)
 {
-    (void)size;
     go_remote(pair);
     return bare(SUSPEND);
 }
 
-static struct call bus_reset(struct pair *pair, uint16_t size)
+static struct call bus_reset(struct pair *pair)
 {
-    (void)size;
     go_remote(pair);
     return bare(BUS_RESET);
 }
 
-static struct call powered_on(struct pair *pair, uint16_t size)
+static struct call powered_on(struct pair *pair)
 {
-    (void)pair;
-    return power_on(size);
+    return power_on(pair->packet_size);
 }
 
 #define OUT "Bulk-OUT packet"

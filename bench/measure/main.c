@@ -21,13 +21,14 @@ static void write_empty_call(void)
 }
 
 /* Units that no one has powered on. */
-static struct pair unused_pair(const char *name)
+static struct pair unused_pair(const char *name, uint16_t packet_size)
 {
     struct pair pair;
 
     memset(&pair.port, 0xA5, sizeof pair.port);
     memset(&pair.plain, 0xA5, sizeof pair.plain);
     pair.name = name;
+    pair.packet_size = packet_size;
     return pair;
 }
 
@@ -47,10 +48,10 @@ static void measure(const struct measured_case *it, uint16_t size)
     char name[64];
 
     snprintf(name, sizeof name, it->both_sizes ? "%s-%u" : "%s", it->name, size);
-    pair = unused_pair(name);
+    pair = unused_pair(name, size);
     call = power_on(size);
     require_number(name, pair_call(&pair, &call).number, TMC_DONE);
-    call = it->reach(&pair, size);
+    call = it->reach(&pair);
     made = pair_call(&pair, &call);
     require_number(name, made.number, it->number);
     printf("call\t%s\t%s\t%s\t%s\t%u\t%zu\t%u\t%zu\t%u\t%zu\n", it->group, name, it->title,

@@ -14,6 +14,7 @@ struct cost {
 
 struct pair {
     const char *name; /* of the case, to show with a difference */
+    uint16_t packet_size;
     struct tmc_unit port;
     struct plain_unit plain;
 };

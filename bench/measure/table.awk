@@ -1,6 +1,7 @@
 # Writes the counts as Markdown, and whether they keep the limits: the exit is 1 where one is missed. Lines come in with tabs between
 # their parts:
 #     region NUMBER INSTRUCTIONS LOADED STORED                  of the plugin
+#     vector REGION TIMES                                       its instructions that use vector registers, where there are any
 #     unit BYTES BYTES                                          the port's, then plain C's
 #     empty REGION STACK                                        a call of a function that only returns
 #     call GROUP NAME TITLE P ANSWER LENGTH REGION STACK REGION STACK
@@ -35,6 +36,7 @@ function grouped(n,   text) {
 function ratio(port, plain) { return sprintf("%.2f", port / plain) }
 
 $1 == "region" { instructions[$2] = $3; loaded[$2] = $4; stored[$2] = $5 }
+$1 == "vector" { vector[$2] = $3 }
 $1 == "unit" { unit["port"] = $2; unit["plain"] = $3 }
 $1 == "empty" { empty = $2; empty_stack = $3 }
 $1 == "frame" {
@@ -42,7 +44,7 @@ $1 == "frame" {
     else if ($4 + 0 > bound[$2]) bound[$2] = $4 + 0
 }
 $1 == "sections" { code[$2] = $3; constants[$2] = $4; unwinding[$2] = $5; written[$2] = $6 }
-$1 == "symbols" { for (i = 3; i <= NF; i++) note_symbol($2, $i) }
+$1 == "symbols" { for (i = 3; i <= NF; i++) if ($i != "") note_symbol($2, $i) }
 $1 == "call" {
     calls++
     group[calls] = $2; name[calls] = $3; title[calls] = $4; packet[calls] = $5; answer[calls] = $6; carried[calls] = $7
@@ -56,8 +58,8 @@ function note_symbol(side, symbol) {
 
 function write_group(first,   i) {
     print ""
-    print "| " group[first] " | Case | P | Answer | Instructions: port | plain C | port / C | Loaded: port | plain C | Stored: port | plain C | Stack: port | plain C |"
-    print "|---|---|--:|--:|--:|--:|--:|--:|--:|--:|--:|--:|--:|"
+    print "| " group[first] " | Case | P | Answer | Instructions: port | plain C | port / C | Of them vector: port | plain C | Loaded: port | plain C | Stored: port | plain C | Stack: port | plain C |"
+    print "|---|---|--:|--:|--:|--:|--:|--:|--:|--:|--:|--:|--:|--:|--:|"
     for (i = first; i <= calls && group[i] == group[first]; i++) write_call(i)
     return i
 }
@@ -67,8 +69,8 @@ function write_call(i,   p, c) {
     c = plain[i]
     printf "| %s | `%s` | %s | %d | %s | %s | %s |", title[i], name[i], packet[i], answer[i], grouped(instructions[p]),
         grouped(instructions[c]), ratio(instructions[p], instructions[c])
-    printf " %s | %s | %s | %s | %s | %s |\n", grouped(loaded[p]), grouped(loaded[c]), grouped(stored[p]), grouped(stored[c]),
-        grouped(port_stack[i]), grouped(plain_stack[i])
+    printf " %s | %s | %s | %s | %s | %s | %s | %s |\n", grouped(vector[p]), grouped(vector[c]), grouped(loaded[p]), grouped(loaded[c]),
+        grouped(stored[p]), grouped(stored[c]), grouped(port_stack[i]), grouped(plain_stack[i])
 }
 
 function deepest(stack,   i, most) {
@@ -91,7 +93,7 @@ function write_sizes() {
     write_row("data that is written: `.data`, `.bss`", grouped(written["port"]), grouped(written["plain"]))
     write_row("deepest stack of the calls above", grouped(deepest(port_stack)), grouped(deepest(plain_stack)))
     write_row("deepest stack of any path, by the frames in the code", bound_text("port"), bound_text("plain"))
-    write_row("symbols from outside", symbols["port"] == "" ? "none" : symbols["port"], symbols["plain"])
+    write_row("symbols from outside", symbols["port"] == "" ? "none" : symbols["port"], symbols["plain"] == "" ? "none" : symbols["plain"])
 }
 
 # The worst ratio of the packets that are accepted or sent, with packets of P bytes. Where P does not matter, 64 was taken.
