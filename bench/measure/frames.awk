@@ -37,7 +37,7 @@ function target(line,   address, offset) {
 function note_call(line,   callee) {
     callee = target(line)
     if (callee == current) {
-        if (line ~ /\tcall/) unknown[current] = "a call of itself"
+        if (line ~ /[\t ]call/) unknown[current] = "a call of itself"
         return
     }
     if ((current, callee) in seen) return
@@ -58,8 +58,8 @@ function note_call(line,   callee) {
     else frame[current] += bytes
 }
 /\tlea .*,%rsp$/ && !/\(%rbp\),%rsp$/ { unknown[current] = "a frame of no fixed size" }
-/\tcall +\*/ { unknown[current] = "an indirect call" }
-/\t(call|j[a-z]+) +[0-9a-f]+ </ { note_call($0) }
+/[\t ]callq? +\*/ { unknown[current] = "an indirect call" }
+/[\t ](call|j)[a-z]* +[0-9a-f]+ </ { note_call($0) }
 
 # -1 where it cannot be said: `reason` then has why.
 function bound(start,   list, count, i, deepest, one) {

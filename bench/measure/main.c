@@ -40,6 +40,12 @@ static void require_number(const char *name, uint8_t number, uint8_t expected)
     exit(1);
 }
 
+static void write_call(const struct measured_case *it, const char *name, uint16_t size, const struct made *made)
+{
+    printf("call\t%s\t%s\t%s\t%u\t%u\t%u\t%zu\t%u\t%zu\n", it->group, name, it->title, it->both_sizes ? size : 0u,
+           made->number, made->port.region, made->port.stack, made->plain.region, made->plain.stack);
+}
+
 static void measure(const struct measured_case *it, uint16_t size)
 {
     struct pair pair;
@@ -47,17 +53,17 @@ static void measure(const struct measured_case *it, uint16_t size)
     struct made made;
     char name[64];
 
-    snprintf(name, sizeof name, it->both_sizes ? "%s-%u" : "%s", it->name, size);
+    if (it->both_sizes)
+        snprintf(name, sizeof name, "%s-%u", it->name, size);
+    else
+        snprintf(name, sizeof name, "%s", it->name);
     pair = unused_pair(name, size);
     call = power_on(size);
     require_number(name, pair_call(&pair, &call).number, TMC_DONE);
     call = it->reach(&pair);
     made = pair_call(&pair, &call);
     require_number(name, made.number, it->number);
-    printf("call\t%s\t%s\t%s\t%s\t%u\t%zu\t%u\t%zu\t%u\t%zu\n", it->group, name, it->title,
-           it->both_sizes ? size == TMC_FULL_SPEED ? "64" : "512" : "-", made.number,
-           call.kind == BULK_OUT ? call.length : made.length, made.port.region, made.port.stack, made.plain.region,
-           made.plain.stack);
+    write_call(it, name, size, &made);
 }
 
 int main(void)

@@ -4,7 +4,7 @@
 #     vector REGION TIMES                                       its instructions that use vector registers, where there are any
 #     unit BYTES BYTES                                          the port's, then plain C's
 #     empty REGION STACK                                        a call of a function that only returns
-#     call GROUP NAME TITLE P ANSWER LENGTH REGION STACK REGION STACK
+#     call GROUP NAME TITLE P ANSWER REGION STACK REGION STACK   the port's region and stack, then plain C's; P is 0 where it has no part
 #     frame SIDE FUNCTION BYTES                                 of frames.awk
 #     sections SIDE CODE CONSTANTS UNWINDING WRITTEN            of sections.awk
 #     symbols SIDE NAME..                                       that are undefined
@@ -47,8 +47,8 @@ $1 == "sections" { code[$2] = $3; constants[$2] = $4; unwinding[$2] = $5; writte
 $1 == "symbols" { for (i = 3; i <= NF; i++) if ($i != "") note_symbol($2, $i) }
 $1 == "call" {
     calls++
-    group[calls] = $2; name[calls] = $3; title[calls] = $4; packet[calls] = $5; answer[calls] = $6; carried[calls] = $7
-    port[calls] = $8; port_stack[calls] = $9; plain[calls] = $10; plain_stack[calls] = $11
+    group[calls] = $2; name[calls] = $3; title[calls] = $4; packet[calls] = $5; answer[calls] = $6
+    port[calls] = $7; port_stack[calls] = $8; plain[calls] = $9; plain_stack[calls] = $10
 }
 
 function note_symbol(side, symbol) {
@@ -67,7 +67,7 @@ function write_group(first,   i) {
 function write_call(i,   p, c) {
     p = port[i]
     c = plain[i]
-    printf "| %s | `%s` | %s | %d | %s | %s | %s |", title[i], name[i], packet[i], answer[i], grouped(instructions[p]),
+    printf "| %s | `%s` | %s | %d | %s | %s | %s |", title[i], name[i], packet[i] ? packet[i] : "-", answer[i], grouped(instructions[p]),
         grouped(instructions[c]), ratio(instructions[p], instructions[c])
     printf " %s | %s | %s | %s | %s | %s | %s | %s |\n", grouped(vector[p]), grouped(vector[c]), grouped(loaded[p]), grouped(loaded[c]),
         grouped(stored[p]), grouped(stored[c]), grouped(port_stack[i]), grouped(plain_stack[i])
@@ -100,7 +100,7 @@ function write_sizes() {
 function worst_packet(size,   i, one, most) {
     worst = 0
     for (i = 1; i <= calls; i++) {
-        if (answer[i] != 0 || group[i] !~ /^Bulk/ || (packet[i] == "-" ? "64" : packet[i]) != size) continue
+        if (answer[i] != 0 || group[i] !~ /^Bulk/ || (packet[i] ? packet[i] : 64) != size) continue
         one = instructions[port[i]] / instructions[plain[i]]
         if (one > most) { most = one; worst = i }
     }
