@@ -6,8 +6,9 @@
 #     compile PROGRAM FILE..      with warnings as errors, linked with the library; the header stands in include/
 #     start PROGRAM WORD..        runs it
 #
-# TEWENNOS_LIBRARY=PATH, an object or an archive for x86-64 with the functions of include/tewennos.h, stands in for the library: then nothing is
-# built, and the Rattle toolchain is not needed. A path that is not absolute is taken from the folder that the script is called from.
+# TEWENNOS_LIBRARY=PATH, an object or an archive for x86-64 with the functions of include/tewennos.h, stands in for the library: then
+# nothing is built, and the Rattle toolchain is not needed. A path that is not absolute is taken from the folder that the script is called
+# from, which it has in `called_from`.
 
 if [ -n "${TEWENNOS_LIBRARY:-}" ]; then
     case $TEWENNOS_LIBRARY in
@@ -33,7 +34,7 @@ find_tools() {
         compiler=(gcc -no-pie)
     else
         # Linked as one piece, so that the emulator needs no libraries of the other processor.
-        need x86_64-linux-gnu-gcc gcc-x86-64-linux-gnu
+        need x86_64-linux-gnu-gcc "gcc-x86-64-linux-gnu libc6-dev-amd64-cross"
         need qemu-x86_64 qemu-user
         compiler=(x86_64-linux-gnu-gcc -static)
         emulator=(qemu-x86_64)
@@ -51,7 +52,7 @@ find_library() {
     fi
     if is_current; then return; fi
     command -v rt >/dev/null 2>&1 ||
-        stop "the command 'rt' of the Rattle toolchain is not on the PATH; install the toolchain (README.md, \"Try it\") and run this again" 2
+        stop "the command 'rt' is not on the PATH; install the Rattle toolchain (README.md, \"Try it\") and run this again" 2
     echo "$me: proving and building the library, which takes some minutes the first time .." >&2
     mkdir -p target/log
     rt staticlib tewennos >target/log/library.out 2>&1 ||

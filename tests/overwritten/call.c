@@ -271,8 +271,12 @@ void make_call(struct chance *chance, enum kind kind, const struct tmc_unit *uni
 static bool make_next(struct chance *chance, const struct tmc_unit *unit, struct call *call)
 {
     static const struct row clear_halt_in = {0x02, 1, 0, 0x82, 0};
+    const struct row abort_out = {0xA2, 1, unit->out_recent, 0x01, 2};
 
-    if (unit->out_halted && one_in(chance, 3)) {
+    if (unit->out_left != 0 && one_in(chance, 5)) {
+        make_call(chance, SETUP, unit, call);
+        make_row(abort_out, call);
+    } else if (unit->out_halted && one_in(chance, 3)) {
         make_call(chance, SETUP, unit, call);
         make_row(way_back(unit), call);
     } else if (unit->in_halted && one_in(chance, 6)) {

@@ -1,5 +1,5 @@
-/* Is the answer 1, or the right one, whatever was written over the unit? Live units are reached by traffic, overwritten in many ways, and called. Each
-   answer, the unit and the buffer after it are compared with bench/plain.c, and no byte beside what was lent may change. */
+/* Is the answer 1, or the right one, whatever was written over the unit? Live units are reached by traffic, overwritten in many ways, and
+   called. Each answer, the unit and the buffer after it are compared with bench/plain.c, and no byte beside what was lent may change. */
 #include "call.h"
 #include "overwrite.h"
 #include "trial.h"
@@ -20,7 +20,8 @@ enum mark {
 
 static const char *const mark_names[MARKS] = {
     "unconfigured", "OUT transfer open", "message in part", "message ready", "Bulk-OUT halted", "Bulk-IN halted", "IN transfer asked",
-    "IN transfer on its way", "empty packet owed", "whole reply", "reply in part", "abort-OUT", "abort-IN", "clear", "LOCS", "REMS", "LWLS", "RWLS"
+    "IN transfer on its way", "empty packet owed", "whole reply", "reply in part", "abort-OUT", "abort-IN", "clear", "LOCS", "REMS", "LWLS",
+    "RWLS"
 };
 
 /* The live units that were met, by their small state. */
@@ -110,23 +111,12 @@ static bool is_new(struct met *met, const struct tmc_unit *unit)
     return true;
 }
 
-/* What the fewest live units have shown. */
-static enum mark rarest(const struct met *met)
-{
-    unsigned least = 0, mark;
-
-    for (mark = 1; mark < MARKS; mark++)
-        if (met->marks[mark] < met->marks[least])
-            least = mark;
-    return (enum mark)least;
-}
-
 /* Traffic on the live unit until it is one that was not met yet. For a while, only one that shows what is wanted will do. */
 static void go_on(struct test *test)
 {
     static struct call call;
     bool any = one_in(&test->chance, 3);
-    enum mark wanted = rarest(&test->met);
+    enum mark wanted = (enum mark)below(&test->chance, MARKS);
     unsigned steps = 0, first = 1 + below(&test->chance, 12);
 
     do {

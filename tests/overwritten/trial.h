@@ -12,8 +12,8 @@ struct trials {
 
 void trials_start(struct trials *trials);
 
-/* Calls the library on a copy of `before`, and leaves in `after` what the unit is then (`after` may be `before`, or null). Ends the program with
-   status 1, and shows unit and call, where the answer, the unit, the lent buffer, or a byte beside what was lent is not as it is to be. */
+/* Calls the library on a copy of `before`, and leaves in `after` what the unit is then (`after` may be `before`, or null). Ends the program
+   with status 1, and shows unit and call, where the answer, the unit, the lent buffer or a byte beside what was lent is not right. */
 struct tmc_answer trial(struct trials *trials, const struct tmc_unit *before, const struct call *call, struct tmc_unit *after);
 
 #endif
