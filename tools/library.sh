@@ -4,6 +4,7 @@
 #     find_tools                  the compiler for x86-64 and, on another processor, the emulator; or says what to install, exit 2
 #     find_library                the library, built where it is not there or is older than crates/; exit 1 where it cannot be
 #     compile PROGRAM FILE..      with warnings as errors, linked with the library; the header stands in include/
+#     try_header                  as C++, where a compiler for it is there
 #     start PROGRAM WORD..        runs it
 #
 # TEWENNOS_LIBRARY=PATH, an object or an archive for x86-64 with the functions of include/tewennos.h, stands in for the library: then
@@ -68,6 +69,15 @@ compile() { # PROGRAM FILE..
     mkdir -p "$(dirname "$program")"
     "${compiler[@]}" -std=c11 -O2 -Wall -Wextra -Wpedantic -Wconversion -Wshadow -Werror -Iinclude -o "$program" "$@" "$library" ||
         stop "$program does not build: the compiler says why above" 1
+}
+
+try_header() {
+    if command -v g++ >/dev/null 2>&1; then
+        g++ -std=c++11 -Wall -Wextra -Wpedantic -Wconversion -Wshadow -Werror -fsyntax-only -x c++ include/tewennos.h ||
+            stop "include/tewennos.h is not good C++: the compiler says why above"
+    else
+        echo "$me: there is no g++, so that the header is good C++ as well was not tried" >&2
+    fi
 }
 
 start() { # PROGRAM WORD..

@@ -14,7 +14,7 @@ static struct {
 
 static void interrupt(enum controller_event event)
 {
-    /* An event that is not answered stays unanswered on the wire, which a host takes for NAK. */
+    /* What the firmware has not answered, the controller answers NAK. */
     controller.answer.handshake = HANDSHAKE_NAK;
     controller.answer.length = 0;
     controller_interrupt(event);

@@ -55,7 +55,7 @@ static void ask(uint8_t tag, const char *question)
 
 static void enumeration(void)
 {
-    printf("Enumeration\n");
+    printf("Enumeration, and a program opens the device as pyvisa-py does\n");
     host_resets();
     host_setup(get_device);
     host_setup(set_address);
@@ -63,6 +63,9 @@ static void enumeration(void)
     host_setup(get_string);
     host_setup(set_configuration);
     host_setup(set_interface);
+    host_resets();
+    host_setup(set_address);
+    host_setup(set_configuration);
     host_setup(get_capabilities);
     host_setup(ren_on);
 }
