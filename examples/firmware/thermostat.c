@@ -16,7 +16,7 @@ static size_t without_newline(const uint8_t *message, size_t length)
     return length != 0 && message[length - 1] == '\n' ? length - 1 : length;
 }
 
-static bool is(const uint8_t *message, size_t length, const char *text)
+static bool equals(const uint8_t *message, size_t length, const char *text)
 {
     return length == strlen(text) && memcmp(message, text, length) == 0;
 }
@@ -61,9 +61,9 @@ enum request thermostat_reads(const uint8_t *message, size_t length, int32_t *th
     const size_t word = sizeof set - 1;
 
     length = without_newline(message, length);
-    if (is(message, length, "*IDN?"))
+    if (equals(message, length, "*IDN?"))
         return ASK_IDENTITY;
-    if (is(message, length, "SETP?"))
+    if (equals(message, length, "SETP?"))
         return ASK_SETPOINT;
     if (length > word && memcmp(message, set, word) == 0 && read_degrees(message + word, length - word, thousandths))
         return SET_SETPOINT;

@@ -1,4 +1,4 @@
-/* Numbers by chance, the same for the same seed on every machine. */
+/* Numbers by chance. No expression draws twice in an order that the compiler chooses, so that a seed gives the same everywhere. */
 #ifndef CHANCE_H
 #define CHANCE_H
 

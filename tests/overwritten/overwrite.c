@@ -32,11 +32,6 @@ void set_number(struct tmc_unit *unit, unsigned field, uint16_t value)
     memcpy((uint8_t *)unit + number_fields[field], &value, sizeof value);
 }
 
-static void set_byte(struct tmc_unit *unit, size_t offset, uint8_t value)
-{
-    memcpy((uint8_t *)unit + offset, &value, 1);
-}
-
 uint16_t limit(unsigned which, const struct tmc_unit *live)
 {
     static const uint16_t fixed[] = {0, 1, 2, 3, 12, 51, 52, 53, 63, 64, 65, 255, 256, 511, 512, 513, 1023, 1024, 1025, 2048, 32768, 65535};
@@ -53,16 +48,34 @@ uint16_t limit(unsigned which, const struct tmc_unit *live)
     return (uint16_t)(beside[which / 3] + which % 3 - 1);
 }
 
-uint16_t likely_number(struct chance *chance, const struct tmc_unit *live)
+/* A value that a two-byte field might be thought to take. */
+static uint16_t likely_number(struct chance *chance, const struct tmc_unit *live)
 {
+    uint32_t beside = below(chance, 3);
+
     switch (below(chance, 4)) {
     case 0:
-        return (uint16_t)(number_at(live, below(chance, NUMBER_FIELDS)) + below(chance, 3) - 1);
+        return (uint16_t)(number_at(live, below(chance, NUMBER_FIELDS)) + beside - 1);
     case 1:
         return (uint16_t)below(chance, TMC_STORE + 1);
     default:
         return limit(below(chance, LIMITS), live);
     }
+}
+
+void overwrite_number(struct chance *chance, struct tmc_unit *unit, const struct tmc_unit *live)
+{
+    uint16_t value = likely_number(chance, live);
+
+    set_number(unit, below(chance, NUMBER_FIELDS), value);
+}
+
+static void overwrite_byte(struct chance *chance, struct tmc_unit *unit)
+{
+    uint8_t value = (uint8_t)(one_in(chance, 8) ? draw(chance) : below(chance, 4));
+    size_t offset = byte_fields[below(chance, COUNT(byte_fields))];
+
+    memcpy((uint8_t *)unit + offset, &value, 1);
 }
 
 void overwrite_some(struct chance *chance, struct tmc_unit *unit, const struct tmc_unit *live)
@@ -71,9 +84,9 @@ void overwrite_some(struct chance *chance, struct tmc_unit *unit, const struct t
 
     for (; count > 0; count--) {
         if (one_in(chance, 2))
-            set_number(unit, below(chance, NUMBER_FIELDS), likely_number(chance, live));
+            overwrite_number(chance, unit, live);
         else
-            set_byte(unit, byte_fields[below(chance, COUNT(byte_fields))], (uint8_t)(one_in(chance, 8) ? draw(chance) : below(chance, 4)));
+            overwrite_byte(chance, unit);
     }
 }
 

@@ -9,14 +9,14 @@
 #define STATE_BYTES (sizeof(struct tmc_unit) - STATE_BEGINS)
 #define NUMBER_FIELDS 10 /* fields of two bytes */
 
-/* A value that one of the two-byte fields might be thought to take: at a limit, or beside what the live unit has. */
-uint16_t likely_number(struct chance *chance, const struct tmc_unit *live);
-
-/* The limits themselves, one after the other: 0 to LIMITS - 1. */
+/* Values for a two-byte field, `which` from 0 to LIMITS - 1: at a limit of document 01, or beside what the live unit has. */
 #define LIMITS 34
 uint16_t limit(unsigned which, const struct tmc_unit *live);
 
 void set_number(struct tmc_unit *unit, unsigned field, uint16_t value);
+
+/* One two-byte field, with a likely value. */
+void overwrite_number(struct chance *chance, struct tmc_unit *unit, const struct tmc_unit *live);
 
 /* A few fields at once, each with a likely value. */
 void overwrite_some(struct chance *chance, struct tmc_unit *unit, const struct tmc_unit *live);

@@ -183,7 +183,8 @@ static void some_store_bytes(struct test *test)
     unsigned i;
 
     for (i = 0; i < 24; i++) {
-        ((uint8_t *)&unit)[below(&test->chance, STATE_BEGINS)] = (uint8_t)draw(&test->chance);
+        uint8_t *byte = (uint8_t *)&unit + below(&test->chance, STATE_BEGINS);
+        *byte = (uint8_t)draw(&test->chance);
         try_all(test, &unit);
     }
 }
@@ -208,7 +209,7 @@ static void plausible_units(struct test *test)
         overwrite_plausibly(&test->chance, &unit);
         try_all(test, &unit);
         if (one_in(&test->chance, 2)) {
-            set_number(&unit, below(&test->chance, NUMBER_FIELDS), likely_number(&test->chance, &unit));
+            overwrite_number(&test->chance, &unit, &unit);
             try_all(test, &unit);
         }
     }
