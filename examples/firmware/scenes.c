@@ -1,0 +1,245 @@
+/* The scenes that are played: a host's calls, and between them turns of the main loop. */
+#include "controller.h"
+#include "firmware.h"
+#include "host.h"
+#include "port.h"
+
+#include <stdio.h>
+
+static const struct setup get_device = {"GET_DESCRIPTOR of the device", 0x80, 6, 0x0100, 0, 18};
+static const struct setup set_address = {"SET_ADDRESS 5", 0x00, 5, 5, 0, 0};
+static const struct setup get_configuration = {"GET_DESCRIPTOR of the configuration", 0x80, 6, 0x0200, 0, 32};
+static const struct setup set_configuration = {"SET_CONFIGURATION 1", 0x00, 9, 1, 0, 0};
+static const struct setup set_interface = {"SET_INTERFACE 0", 0x01, 11, 0, 0, 0};
+static const struct setup get_string = {"GET_DESCRIPTOR of a string, of which there are none", 0x80, 6, 0x0301, 0, 255};
+static const struct setup get_capabilities = {"GET_CAPABILITIES", 0xA1, 7, 0, 0, 24};
+static const struct setup ren_on = {"REN_CONTROL 1", 0xA1, 160, 1, 0, 1};
+static const struct setup pulse = {"INDICATOR_PULSE", 0xA1, 64, 0, 0, 1};
+static const struct setup read_status = {"READ_STATUS_BYTE, tag 2", 0xA1, 128, 2, 0, 3};
+static const struct setup out_halted = {"GET_STATUS of Bulk-OUT", 0x82, 0, 0, 0x01, 2};
+static const struct setup clear_out = {"CLEAR_FEATURE, the halt of Bulk-OUT", 0x02, 1, 0, 0x01, 0};
+static const struct setup clear_in = {"CLEAR_FEATURE, the halt of Bulk-IN", 0x02, 1, 0, 0x82, 0};
+static const struct setup initiate_clear = {"INITIATE_CLEAR", 0xA1, 5, 0, 0, 1};
+static const struct setup check_clear = {"CHECK_CLEAR_STATUS", 0xA1, 6, 0, 0, 2};
+static const struct setup check_abort_in = {"CHECK_ABORT_BULK_IN_STATUS", 0xA2, 4, 0, 0x82, 8};
+
+static struct setup abort_in(uint8_t tag)
+{
+    struct setup setup = {"INITIATE_ABORT_BULK_IN", 0xA2, 3, tag, 0x82, 2};
+    return setup;
+}
+
+static void scene(const char *title)
+{
+    printf("\n%s\n", title);
+}
+
+static void turns(unsigned count)
+{
+    for (; count > 0; count--)
+        firmware_turn();
+    if (!host_heard_thermostat())
+        firmware_says("finds nothing to do");
+    host_heard_thermostat();
+}
+
+/* A question that is answered at once, and read. */
+static void ask(uint8_t tag, const char *question)
+{
+    host_sends(tag, 1, question);
+    turns(2);
+    host_asks((uint8_t)(tag + 1), 1024);
+    turns(1);
+    host_reads();
+}
+
+static void enumeration(void)
+{
+    printf("Enumeration, and a program opens the device as pyvisa-py does\n");
+    host_resets();
+    host_setup(get_device);
+    host_setup(set_address);
+    host_setup(get_configuration);
+    host_setup(get_string);
+    host_setup(set_configuration);
+    host_setup(set_interface);
+    host_resets();
+    host_setup(set_address);
+    host_setup(set_configuration);
+    host_setup(get_capabilities);
+    host_setup(ren_on);
+}
+
+static void identity(void)
+{
+    scene("*IDN?, with an answer that fills two packets to the last byte: an empty one closes the transfer");
+    host_sends(1, 1, "*IDN?\n");
+    turns(1);
+    host_asks(2, 1024);
+    host_polls();
+    turns(1);
+    host_reads();
+}
+
+static void setpoint(void)
+{
+    scene("SETP 18 and SETP 27.5, each whole");
+    host_sends(3, 1, "SETP 18\n");
+    turns(1);
+    host_sends(4, 1, "SETP 27.5\n");
+    host_sends(5, 1, "SETP?\n");
+    turns(1);
+    ask(5, "SETP?\n");
+}
+
+static void setpoint_in_halves(void)
+{
+    scene("SETP 18, and then SETP 27.5 in two transfers: the half is not acted on");
+    host_sends(7, 1, "SETP 18\n");
+    turns(1);
+    host_sends(8, 0, "SETP 27");
+    turns(2);
+    host_sends(9, 1, ".5\n");
+    turns(1);
+    ask(10, "SETP?\n");
+}
+
+static void fault(void)
+{
+    scene("A half, a damaged packet, and the host's way back: the half is not joined to what comes next");
+    host_sends(12, 0, "SETP 35");
+    host_sends_damaged(13, ".5\n");
+    host_setup(out_halted);
+    host_sends(13, 1, ".5\n");
+    host_setup(clear_out);
+    host_setup(out_halted);
+    host_sends(13, 1, ".5\n");
+    turns(1);
+    host_setup(read_status);
+    ask(14, "SETP?\n");
+    host_setup(read_status);
+}
+
+static void tellings(void)
+{
+    scene("A trigger, and a pulse of the light");
+    host_triggers(16);
+    turns(1);
+    host_setup(pulse);
+    turns(1);
+}
+
+static void masked(void)
+{
+    scene("A packet that comes while the main loop is in the port waits until it is out again");
+    host_sends_while_masked(17, "SETP 21.25\n");
+    turns(1);
+    host_sees_answer();
+    turns(1);
+}
+
+/* Without the generation (port.c) the answer would be handed over where it is thrown away: the second read would fetch it, after an abort
+   that had dropped it. */
+static void late_after_abort(void)
+{
+    scene("The host aborts its read while the thermostat is at work: the late answer is thrown away, and the next question gets its own");
+    host_sends(18, 1, "*IDN?\n");
+    turns(1);
+    host_asks(19, 1024);
+    host_polls();
+    host_setup(abort_in(19));
+    host_polls();
+    host_setup(check_abort_in);
+    host_asks(20, 1024);
+    turns(1);
+    host_polls();
+    host_setup(abort_in(20));
+    host_polls();
+    host_setup(check_abort_in);
+    ask(21, "SETP?\n");
+}
+
+/* An abort with the wrong tag, which one driver sends, leaves the read open, and the next request is out of turn (13). With neither guard
+   of port.c the identity would be offered behind the clear, and SETP? would be answered with it. */
+static void late_after_clear(void)
+{
+    scene("A read times out, the abort has a wrong tag, the next request halts Bulk-OUT: a clear helps, the late answer is dropped");
+    host_sends(23, 1, "*IDN?\n");
+    turns(1);
+    host_asks(24, 1024);
+    host_polls();
+    host_setup(abort_in(25));
+    host_asks(25, 1024);
+    host_setup(initiate_clear);
+    host_setup(check_clear);
+    host_polls();
+    host_setup(check_clear);
+    host_setup(clear_out);
+    turns(1);
+    ask(26, "SETP?\n");
+}
+
+static void late_after_features(void)
+{
+    scene("The same, and the host clears the halts of both endpoints instead");
+    host_sends(28, 1, "*IDN?\n");
+    turns(1);
+    host_asks(29, 1024);
+    host_asks(30, 1024);
+    host_setup(clear_out);
+    host_setup(clear_in);
+    turns(1);
+    ask(31, "SETP?\n");
+}
+
+/* Without the second guard of port.c the identity would lie in the reply store by then, and be read. */
+static void unread(void)
+{
+    scene("The host asks, does not read, and asks again: it gets the answer to its last question");
+    host_sends(33, 1, "*IDN?\n");
+    turns(3);
+    ask(34, "SETP?\n");
+}
+
+static void bus(void)
+{
+    scene("Suspend, and a reset while the thermostat is at work");
+    host_suspends();
+    host_sends(36, 1, "*IDN?\n");
+    turns(1);
+    host_resets();
+    turns(1);
+    host_setup(set_configuration);
+    ask(1, "SETP?\n");
+}
+
+static void stray_write(void)
+{
+    scene("A stray write meets the unit: the port answers 1, and the firmware starts over");
+    port_unit()->in_unsent = 0xFFFF;
+    host_sends(3, 1, "SETP?\n");
+    if (wire_reattached())
+        printf("  %-11s left the bus and is back\n", "device");
+    host_resets();
+    host_setup(set_configuration);
+    ask(1, "SETP?\n");
+}
+
+int main(void)
+{
+    firmware_start();
+    enumeration();
+    identity();
+    setpoint();
+    setpoint_in_halves();
+    fault();
+    tellings();
+    masked();
+    late_after_abort();
+    late_after_clear();
+    late_after_features();
+    unread();
+    bus();
+    stray_write();
+    return 0;
+}
