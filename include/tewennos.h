@@ -24,7 +24,8 @@ extern "C" {
 #define TMC_FULL_SPEED 64u     /* the packet sizes */
 #define TMC_HIGH_SPEED 512u
 
-/* The numbers that a call is answered with: document 01's table. 6 to 14 halt Bulk-OUT; the others but 0 leave all as it was. */
+/* The numbers that a call is answered with: document 01's table. 6 to 14 halt Bulk-OUT. The others but 0 leave all as it was, but for 3 at
+   power-on, which makes a unit for packets of 64. */
 enum tmc_number {
     TMC_DONE = 0,
     TMC_UNSOUND = 1,       /* the unit is none that these functions write: overwritten, or never powered on */
@@ -41,7 +42,7 @@ enum tmc_number {
     TMC_TOO_LONG = 12,
     TMC_OUT_OF_TURN = 13,
     TMC_MISALIGNED = 14,
-    TMC_NO_ROW = 15,       /* a setup packet that is none of this interface's: stall it, or serve it yourself */
+    TMC_NO_ROW = 15,       /* a setup packet that the port does not serve, or not in this form, or not yet configured: serve it or stall it */
     TMC_NOT_NOW = 16
 };
 
@@ -70,8 +71,8 @@ enum tmc_phase { TMC_CLOSED = 0, TMC_ASKED = 1, TMC_SENDING = 2, TMC_OWED = 3 };
 enum tmc_split { TMC_NO_SPLIT = 0, TMC_ABORT_OUT = 1, TMC_ABORT_IN = 2, TMC_CLEAR = 3 };
 enum tmc_remote { TMC_LOCS = 0, TMC_REMS = 1, TMC_LWLS = 2, TMC_RWLS = 3 };
 
-/* The unit, to be looked at in a debugger and written by no one else. Flags are 0 or 1. A number of two bytes has its low byte first,
-   whatever the processor's order is. */
+/* The unit, which you may look at while no call is under way, and which no one else writes. Flags are 0 or 1. A number of two bytes has
+   its low byte first, whatever the processor's order is. */
 struct tmc_unit {
     uint8_t message[TMC_STORE];
     uint8_t reply[TMC_STORE];
@@ -111,7 +112,7 @@ struct tmc_unit {
 struct tmc_answer tmc_power_on(struct tmc_unit *unit, uint16_t packet);
 
 /* A setup packet. On 0, send the `length` bytes of `buffer` or, where there are none, acknowledge; on anything else, stall.
-   `room` is at least 24. An answer may tell a trigger or a pulse. */
+   `room` is at least 24. An answer may tell a pulse. */
 struct tmc_answer tmc_setup(struct tmc_unit *unit, const uint8_t *packet, size_t n, uint8_t *buffer, size_t room);
 
 /* A Bulk-OUT packet, 0 to P bytes. 0: acknowledged. 5: answer NAK and give the same packet again. 4 and 6 to 14: stall the endpoint.
