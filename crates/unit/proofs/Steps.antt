@@ -5,7 +5,7 @@ use mathlib.Core.Path.{_≡_, refl, sym, ap, _∙_}
 use mathlib.Core.Bool.{Bool, true, false, cond}
 use mathlib.Core.List.{List}
 use lib.ListN.{length, drop, replicate}
-use lib.Seq.{paste, paste-zero}
+use lib.Seq.{paste}
 use Rattle.rules.specs.Choice.{pick, first}
 use Rattle.rules.specs.Answers.{DONE, WRONG-SIZE}
 use Rattle.rules.proofs.Choice.{pick-true, pick-false, refuses, passes}
@@ -25,10 +25,6 @@ use Rattle.port.specs.declared.types.Given.{Given}
 use Rattle.unit.specs.Promise.{deviceOf, unitOf, doneOf, Tells}
 use Rattle.unit.specs.declared.types.Unit.{Unit}
 use Rattle.unit.specs.declared.types.Done.{Done}
-
--- a copy of no bytes
-pub nothing-pasted : (d : List ℕ) (at : ℕ) (s : List ℕ) (n : ℕ) → n ≡ 0 → d ≡ paste d at s n
-nothing-pasted d at s n e = rw e (paste-zero d at s)
 
 -- the unit that a plan and the message store behind it make
 abbrev pub after-plan : Unit → Plan → List ℕ → Unit

@@ -71,10 +71,10 @@ use Rattle.port.proofs.types.Plan as P
 use Rattle.port.proofs.types.Plan.Laws as P′
 use Rattle.inplace.proofs.types.Answer as N
 use Rattle.inplace.proofs.types.Answer.Laws as N′
-use Rattle.unit.proofs.packet.packet_step as g
-use Rattle.unit.proofs.packet.packet_step.Symbol as g-def
-use Rattle.unit.proofs.packet.packet_step.Symbol.{name as #g}
-use Rattle.unit.proofs.packet.packet_step.Met as g-thm
+use Rattle.packets.proofs.out.packet_step as g
+use Rattle.packets.proofs.out.packet_step.Symbol as g-def
+use Rattle.packets.proofs.out.packet_step.Symbol.{name as #g}
+use Rattle.packets.proofs.out.packet_step.Met as g-thm
 use Rattle.inplace.proofs.packet.packet_in_place.Key.{name as #f}
 use Rattle.inplace.proofs.packet.packet_in_place as f
 use Rattle.inplace.proofs.packet.packet_in_place.Statement as stated
@@ -261,4 +261,4 @@ packet-in-place-spec 𝓤 H 𝓜 𝓖 𝓡 =
     entered 𝓤 H (tripleOf 𝓤 H (𝓖 .A) f.signature (f.spec 𝓤 H (𝓖 .A) (𝓜 .mem) (𝓡 .run)))
     (tables 𝓤 H 𝓜 𝓡 code.env .C) (tables 𝓤 H 𝓜 𝓡 code.env .Λ) #f code.function (code.unfolded 𝓤 H 𝓜 𝓡)
     (f-meets 𝓤 H (𝓖 .A) (givenOf 𝓤 H 𝓜 𝓖) (𝓜 .mem) (𝓡 .run) (tablesOf 𝓤 H 𝓜 (tables 𝓤 H 𝓜 𝓡 code.env))
-    (cited 𝓤 H (Core 𝓤 H (𝓖 .A) (𝓜 .mem) (𝓡 .run)) 𝓜 𝓡 code.env #g g-def.routine code.calls-unit·packet·packet-step (g-thm.met 𝓤 H 𝓜 𝓖 𝓡)))
+    (cited 𝓤 H (Core 𝓤 H (𝓖 .A) (𝓜 .mem) (𝓡 .run)) 𝓜 𝓡 code.env #g g-def.routine code.calls-packets·out·packet-step (g-thm.met 𝓤 H 𝓜 𝓖 𝓡)))
