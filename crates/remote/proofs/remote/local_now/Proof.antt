@@ -1,12 +1,12 @@
 use Rattle.port.specs.Remote.{localNow}
 use borrow.Author.Needs.{needs}
-use Rattle.state.proofs.remote.local_now.Statement.{statement}
-use Rattle.state.proofs.remote.local_now.Tie as tie
-use Rattle.state.proofs.remote.local_now.Reads as reads
-use Rattle.state.proofs.remote.local_now.Lts as lts
+use Rattle.remote.proofs.remote.local_now.Statement.{statement}
+use Rattle.remote.proofs.remote.local_now.Tie as tie
+use Rattle.remote.proofs.remote.local_now.Reads as reads
+use Rattle.remote.proofs.remote.local_now.Lts as lts
 use Rattle.state.proofs.parts.with_port.Reads as with-port-reads
 use Rattle.state.proofs.parts.with_remote.Reads as with-remote-reads
 use Rattle.state.proofs.parts.with_ren.Reads as with-ren-reads
 
 with-ren-requires : tie.Need-with-ren-requires
 with-ren-requires c κs = search needs

@@ -1,9 +1,9 @@
 // The remote/local table, a column to a function, and what gives LOCS and REN off.
-use crate::parts::with_port;
-use crate::parts::with_remote;
-use crate::parts::with_ren;
 use port::types::Remote;
 use port::types::State;
+use state::parts::with_port;
+use state::parts::with_remote;
+use state::parts::with_ren;
 ghost use mathlib.Core.Path.{_≡_};
 ghost use Prim.Native.Nat.{ℕ};
 ghost use Rattle.port.specs.Remote.{toLocal, byPanel, lockedOut, withRenOn, localNow, headed};

@@ -1,12 +1,12 @@
 use mathlib.Core.Path.{refl}
 use native.Mathlib.Omega.{arith}
 use Rattle.port.specs.Remote.{headed}
-use Rattle.state.proofs.PartLaws.{moves, stays}
+use Rattle.remote.proofs.TableLaws.{moves, stays}
 use borrow.Author.Needs.{needs}
-use Rattle.state.proofs.remote.heard.Statement.{statement}
-use Rattle.state.proofs.remote.heard.Tie as tie
-use Rattle.state.proofs.remote.heard.Reads as reads
-use Rattle.state.proofs.remote.heard.Lts as lts
+use Rattle.remote.proofs.remote.heard.Statement.{statement}
+use Rattle.remote.proofs.remote.heard.Tie as tie
+use Rattle.remote.proofs.remote.heard.Reads as reads
+use Rattle.remote.proofs.remote.heard.Lts as lts
 
 enum-told : tie.Need-enum-told
 enum-told c = search needs
