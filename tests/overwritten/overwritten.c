@@ -176,16 +176,19 @@ static void each_number(struct test *test)
     }
 }
 
-/* Bytes of the stores: no call may look at them to tell whether the unit is sound. */
-static void some_store_bytes(struct test *test)
+/* Every byte of both stores, another value in it before one call: no call may take that for a fault. */
+static void each_store_byte(struct test *test)
 {
+    unsigned first = below(&test->chance, KINDS);
     struct tmc_unit unit = test->live;
-    unsigned i;
+    uint8_t *stores = (uint8_t *)&unit;
+    size_t i;
 
-    for (i = 0; i < 24; i++) {
-        uint8_t *byte = (uint8_t *)&unit + below(&test->chance, STATE_BEGINS);
-        *byte = (uint8_t)draw(&test->chance);
-        try_all(test, &unit);
+    for (i = 0; i < STATE_BEGINS; i++) {
+        uint8_t was = stores[i];
+        stores[i] = (uint8_t)(was + 1 + below(&test->chance, 255));
+        try_one(test, &unit, (enum kind)((first + i) % KINDS));
+        stores[i] = was;
     }
 }
 
@@ -240,7 +243,7 @@ static void overwrite(struct test *test)
             make_call(&test->chance, (enum kind)kind, &test->live, &test->calls[kind][variant]);
     each_byte(test);
     each_number(test);
-    some_store_bytes(test);
+    each_store_byte(test);
     several_fields(test);
     plausible_units(test);
     random_bytes(test);

@@ -1,11 +1,11 @@
 // The bus's calls: the one rule of both, and suspend.
-use crate::given::given;
 use port::types::Given;
 use port::types::State;
+use remote::remote::local_now;
 use rules::DONE;
 use rules::UNSOUND;
-use state::remote::local_now;
-use state::sound::sound;
+use soundness::sound::sound;
+use state::given::given;
 ghost use mathlib.Core.Path.{_≡_};
 ghost use Prim.Native.Nat.{ℕ};
 ghost use Rattle.rules.specs.Choice.{first};

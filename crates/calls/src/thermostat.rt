@@ -1,15 +1,15 @@
 // The thermostat sets its status byte, or asks at its panel for local control.
-use crate::given::given;
 use port::types::Given;
 use port::types::State;
+use remote::remote::by_panel;
 use rules::DONE;
 use rules::UNCONFIGURED;
 use rules::UNSOUND;
+use soundness::sound::sound;
+use state::given::given;
 use state::parts::with_port;
 use state::parts::with_remote;
 use state::parts::with_status;
-use state::remote::by_panel;
-use state::sound::sound;
 ghost use mathlib.Core.Path.{_≡_};
 ghost use Prim.Native.Nat.{ℕ};
 ghost use Rattle.rules.specs.Choice.{first};

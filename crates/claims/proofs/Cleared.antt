@@ -39,7 +39,7 @@ use Rattle.port.proofs.Soundness.{Sound, ClearSound, SplitSound, Phase, is-clos
 use Rattle.port.proofs.KeepsOut.{fresh-sound}
 use Rattle.port.proofs.Calls.{power-on-sound, keeps-sound, keeps-stored}
 use Rattle.port.proofs.Alive.{alive-sound}
-use Rattle.port.proofs.Agree.{live-agrees}
+use Rattle.twins.proofs.Agree.{live-agrees}
 use Rattle.claims.specs.Fresh.{SET-CONFIGURATION-1, SET-FEATURE-OUT, halted, resumed, freshUnit}
 use Rattle.claims.specs.Claims.{Clean, CleanAfterFault, CleanAfterAnyFault}
 

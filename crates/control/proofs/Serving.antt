@@ -26,9 +26,9 @@ use Rattle.port.specs.Calls.{refused, said, setupRules, served, wipes, wiped, a
 use Rattle.port.specs.declared.types.Split.{Split}
 use Rattle.port.specs.declared.types.Split.the-variants.{None, AbortOut, AbortIn, Clear}
 use Rattle.port.specs.declared.types.State.{State}
-use Rattle.control.specs.Control.{controlOf}
+use Rattle.splits.specs.Control.{controlOf}
 use Rattle.control.specs.Served.{Gives, Serves}
-use Rattle.control.specs.declared.types.Control.{Control}
+use Rattle.splits.specs.declared.types.Control.{Control}
 use Rattle.control.specs.declared.types.Served.{Served}
 
 -- ** no answer is longer than 24 bytes

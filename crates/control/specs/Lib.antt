@@ -1,3 +1,2 @@
--- How code hands an answer on: its bytes in an array, or as a plan of what to copy.
-pub mod Control
+-- What a setup packet comes to, its bytes in the lent buffer.
 pub mod Served

@@ -1,11 +1,11 @@
 // CLEAR_FEATURE, SET_FEATURE and GET_STATUS, by their endpoint.
-use crate::says::says_0;
-use crate::says::says_2;
-use crate::types::Control;
 use port::types::BulkIn;
 use port::types::CLOSED;
 use port::types::OWED;
 use port::types::State;
+use splits::says::says_0;
+use splits::says::says_2;
+use splits::types::Control;
 use state::parts::broken;
 use state::parts::empty_in;
 use state::parts::keeps_halt;
@@ -18,7 +18,7 @@ use wire::types::Row;
 ghost use mathlib.Core.Path.{_≡_};
 ghost use Prim.Native.Nat.{ℕ};
 ghost use Rattle.port.specs.Rows.{clearFeatureOut, clearFeatureIn, answerRow};
-ghost use Rattle.control.specs.Control.{controlOf};
+ghost use Rattle.splits.specs.Control.{controlOf};
 
 fn clear_feature_out(st: State) -> State
     ensures { λ r. ⌜ r ≡ clearFeatureOut st ⌝ }

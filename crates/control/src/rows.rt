@@ -1,33 +1,34 @@
 // The rows, in the order of the table, and those of one answer.
-use crate::aborts::check_abort_in;
-use crate::aborts::check_abort_out;
-use crate::aborts::initiate_abort_in;
-use crate::aborts::initiate_abort_out;
-use crate::clear::check_clear;
-use crate::clear::initiate_clear;
 use crate::features::clear_feature;
 use crate::features::get_status;
 use crate::features::set_feature;
-use crate::says::says_1;
-use crate::says::says_3;
-use crate::types::Control;
 use port::types::State;
+use remote::remote::local_now;
+use remote::remote::locked_out;
+use remote::remote::to_local;
 use rules::DONE;
 use rules::SUCCESS;
 use rules::TELLS_NOTHING;
 use rules::TELLS_PULSE;
+use splits::aborts::check_abort_in;
+use splits::aborts::check_abort_out;
+use splits::aborts::initiate_abort_in;
+use splits::aborts::initiate_abort_out;
+use splits::clear::check_clear;
+use splits::clear::initiate_clear;
+use splits::says::says_1;
+use splits::says::says_3;
+use splits::says::shown;
+use splits::types::Control;
 use state::parts::with_port;
 use state::parts::with_remote;
 use state::parts::with_ren;
-use state::remote::local_now;
-use state::remote::locked_out;
-use state::remote::to_local;
 use wire::types::Row;
 ghost use mathlib.Core.Path.{_≡_};
 ghost use Prim.Native.Nat.{ℕ};
 ghost use Rattle.port.specs.In.{says};
-ghost use Rattle.port.specs.Rows.{renControl, shown, capabilities, answerRow};
-ghost use Rattle.control.specs.Control.{controlOf};
+ghost use Rattle.port.specs.Rows.{renControl, capabilities, answerRow};
+ghost use Rattle.splits.specs.Control.{controlOf};
 
 fn ren_control(st: State, on: u8) -> State
     ensures { λ r. ⌜ r ≡ renControl st on ⌝ }
@@ -37,13 +38,6 @@ fn ren_control(st: State, on: u8) -> State
         return with_port(st, with_ren(p, 1));
     }
     local_now(st)
-}
-
-// The status byte with bit 6 cleared.
-fn shown(status: u8) -> u8
-    ensures { λ r. ⌜ r ≡ shown status ⌝ }
-{
-    status / 128 * 128 + status % 64
 }
 
 fn get_capabilities(state: State) -> Control

@@ -1,7 +1,5 @@
 // A setup packet: the sizes that it must have, and what each kind of it is answered.
 use crate::rows::answer_row;
-use crate::says::says_0;
-use crate::types::Control;
 use crate::types::Served;
 use port::types::State;
 use rules::DONE;
@@ -9,10 +7,12 @@ use rules::NO_ROW;
 use rules::TELLS_NOTHING;
 use rules::UNSOUND;
 use rules::WRONG_SIZE;
+use setups::setup::read_setup;
+use soundness::sound::sound;
+use splits::says::says_0;
+use splits::types::Control;
 use state::parts::fresh;
-use state::sound::sound;
 use wire::copies::copy_in;
-use wire::setup::read_setup;
 use wire::types::Row;
 use wire::types::Setup;
 ghost use mathlib.Core.Path.{_≡_};
@@ -20,7 +20,7 @@ ghost use Prim.Native.Nat.{ℕ};
 ghost use Rattle.rules.specs.Choice.{first};
 ghost use Rattle.port.specs.In.{refuse};
 ghost use Rattle.port.specs.Calls.{setupRules, served, wipes};
-ghost use Rattle.control.specs.Control.{controlOf};
+ghost use Rattle.splits.specs.Control.{controlOf};
 ghost use Rattle.control.specs.Served.{Serves};
 
 // The first of 1 and 3 that applies to a setup packet of n bytes with a control buffer of `room`, or 0.

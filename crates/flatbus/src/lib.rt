@@ -1,7 +1,6 @@
 // Power-on, and the bus's calls, on the unit in bytes.
 use calls::bus::bus_gate;
 use calls::bus::suspended;
-use calls::given::given;
 use flat::unit::is_unit;
 use flat::unit::state_of;
 use flatcalls::after::make;
@@ -13,7 +12,8 @@ use port::types::FULL_SPEED;
 use port::types::Setting;
 use rules::DONE;
 use rules::WRONG_SIZE;
-use state::sound::is_size;
+use soundness::sound::is_size;
+use state::given::given;
 ghost use mathlib.Core.Path.{_≡_};
 ghost use Rattle.port.specs.Device.{powerOn};
 ghost use Rattle.port.specs.Calls.{busReset, suspend};

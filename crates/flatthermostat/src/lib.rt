@@ -1,6 +1,4 @@
 // The thermostat's calls, on the unit in bytes.
-use calls::offer::offer_into;
-use calls::take::take_from;
 use calls::thermostat::returned;
 use calls::thermostat::status_set;
 use flat::unit::is_unit;
@@ -9,6 +7,8 @@ use flatcalls::after::carried;
 use flatcalls::after::no_unit;
 use flatcalls::after::settled;
 use flatcalls::types::Answer;
+use messages::offer::offer_into;
+use messages::take::take_from;
 use port::types::Given;
 use port::types::State;
 ghost use mathlib.Core.Path.{_≡_};

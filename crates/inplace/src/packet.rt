@@ -1,7 +1,7 @@
 // A Bulk-OUT packet in place.
 use crate::types::Answer;
+use packets::store::packet_step;
 use port::types::State;
-use unit::packet::packet_step;
 use unit::types::Unit;
 ghost use Rattle.port.specs.Calls.{bulkOut};
 ghost use Rattle.unit.specs.Promise.{deviceOf};

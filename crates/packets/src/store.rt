@@ -24,3 +24,10 @@ pub fn packet_into(store: &mut [u8], st: State, s: &[u8]) -> Plan
     }
     plan
 }
+
+// The step that the by-value call and the in-place form share: the packet's data goes behind what the message holds.
+pub fn packet_step(message: &mut [u8; 1024], st: State, s: &[u8]) -> Plan
+    ensures { λ r. ⌜ (r ≡ outPlan st (now (s .entry))) × (now (message .exit) ≡ paste (now (message .entry)) (st .small .bulkout .held) (drop (r .from) (now (s .entry))) (r .count)) ⌝ }
+{
+    packet_into(message, st, s)
+}

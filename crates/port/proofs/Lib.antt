@@ -10,6 +10,5 @@ pub mod Caught
 pub mod Refuted
 pub mod Broken
 pub mod Alive
-pub mod Agree
 pub mod Clearing
 pub mod Answered

@@ -1,4 +1,3 @@
-// The small state by value: its parts, its remote/local table, and whether it is sound.
+// The small state by value, a part at a time.
+pub mod given; // a state and a number, with no bytes
 pub mod parts; // one part set, and tests on one
-pub mod remote; // the remote/local table
-pub mod sound; // whether a unit is sound

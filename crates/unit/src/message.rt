@@ -1,7 +1,7 @@
 // A message is handed over.
 use crate::types::Told;
 use crate::types::Unit;
-use calls::take::take_step;
+use messages::take::take_step;
 use port::types::State;
 ghost use mathlib.Core.Path.{_≡_};
 ghost use lib.ListN.{length};

@@ -1,22 +1,11 @@
-// A Bulk-OUT packet: the step that the by-value call and the in-place form share, and the by-value call.
+// A Bulk-OUT packet.
 use crate::types::Done;
 use crate::types::Unit;
-use packets::store::packet_into;
-use port::types::Plan;
+use packets::store::packet_step;
 use port::types::State;
 ghost use mathlib.Core.Path.{_≡_};
-ghost use lib.ListN.{length, drop};
-ghost use lib.Seq.{paste};
-ghost use Rattle.port.specs.Out.{outPlan};
 ghost use Rattle.port.specs.Calls.{bulkOut};
 ghost use Rattle.unit.specs.Promise.{deviceOf, doneOf};
-
-// The packet is decided over the state, and its data goes behind what the message holds.
-pub fn packet_step(message: &mut [u8; 1024], st: State, s: &[u8]) -> Plan
-    ensures { λ r. ⌜ (r ≡ outPlan st (now (s .entry))) × (now (message .exit) ≡ paste (now (message .entry)) (st .small .bulkout .held) (drop (r .from) (now (s .entry))) (r .count)) ⌝ }
-{
-    packet_into(message, st, s)
-}
 
 impl Unit {
     // A Bulk-OUT packet.

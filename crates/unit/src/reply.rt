@@ -1,21 +1,11 @@
 // A reply is offered.
 use crate::types::Done;
 use crate::types::Unit;
-use calls::offer::offer_into;
-use port::types::Plan;
+use messages::offer::offer_step;
 use port::types::State;
 ghost use mathlib.Core.Path.{_≡_};
-ghost use lib.ListN.{length, drop};
-ghost use lib.Seq.{paste};
-ghost use Rattle.port.specs.Calls.{offerPlan, offer};
+ghost use Rattle.port.specs.Calls.{offer};
 ghost use Rattle.unit.specs.Promise.{deviceOf, doneOf};
-
-// The offer is decided over the state, and its bytes go to the front of the reply store.
-pub fn offer_step(reply: &mut [u8; 1024], st: State, bytes: &[u8]) -> Plan
-    ensures { λ r. ⌜ (r ≡ offerPlan st (length (now (bytes .entry)))) × (now (reply .exit) ≡ paste (now (reply .entry)) 0 (drop (r .from) (now (bytes .entry))) (r .count)) ⌝ }
-{
-    offer_into(reply, 0, st, bytes)
-}
 
 impl Unit {
     // A reply, which the host's next requests fetch.

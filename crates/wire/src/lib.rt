@@ -2,5 +2,4 @@
 pub mod copies; // the one copy that a call makes
 pub mod header; // a Bulk-OUT header: what it says, or its first fault; a Bulk-IN header: its bytes
 pub mod numbers; // numbers of four bytes, and runs of zero bytes
-pub mod setup; // a setup packet: which row it matches
 pub mod types; // what a header and a setup packet can say

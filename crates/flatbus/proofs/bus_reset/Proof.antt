@@ -15,7 +15,7 @@ use Rattle.flatbus.proofs.bus_reset.Tie as tie
 use Rattle.flatbus.proofs.bus_reset.Reads as reads
 use Rattle.flatbus.proofs.bus_reset.Lts as lts
 use Rattle.calls.proofs.bus.bus_gate.Reads as bus-gate-reads
-use Rattle.calls.proofs.given.given.Reads as given-reads
+use Rattle.state.proofs.given.given.Reads as given-reads
 use Rattle.flat.proofs.unit.is_unit.Reads as is-unit-reads
 use Rattle.flat.proofs.unit.state_of.Reads as state-of-reads
 use Rattle.flatcalls.proofs.after.make.Reads as make-reads

@@ -6,7 +6,7 @@ use Rattle.flatbus.proofs.power_on.Statement.{statement}
 use Rattle.flatbus.proofs.power_on.Tie as tie
 use Rattle.flatbus.proofs.power_on.Reads as reads
 use Rattle.flatbus.proofs.power_on.Lts as lts
-use Rattle.state.proofs.sound.is_size.Reads as is-size-reads
+use Rattle.soundness.proofs.sound.is_size.Reads as is-size-reads
 use Rattle.flatcalls.proofs.after.make.Reads as make-reads
 use Rattle.flatcalls.proofs.after.only.Reads as only-reads
 

@@ -9,7 +9,7 @@ use Rattle.flatthermostat.proofs.offer.Statement.{statement}
 use Rattle.flatthermostat.proofs.offer.Tie as tie
 use Rattle.flatthermostat.proofs.offer.Reads as reads
 use Rattle.flatthermostat.proofs.offer.Lts as lts
-use Rattle.calls.proofs.offer.offer_into.Reads as offer-into-reads
+use Rattle.messages.proofs.offer.offer_into.Reads as offer-into-reads
 use Rattle.flat.proofs.unit.is_unit.Reads as is-unit-reads
 use Rattle.flat.proofs.unit.state_of.Reads as state-of-reads
 use Rattle.flatcalls.proofs.after.carried.Reads as carried-reads

@@ -6,9 +6,9 @@ use Rattle.calls.proofs.bus.suspended.Statement.{statement}
 use Rattle.calls.proofs.bus.suspended.Tie as tie
 use Rattle.calls.proofs.bus.suspended.Reads as reads
 use Rattle.calls.proofs.bus.suspended.Lts as lts
-use Rattle.state.proofs.remote.local_now.Reads as local-now-reads
+use Rattle.remote.proofs.remote.local_now.Reads as local-now-reads
 use Rattle.calls.proofs.bus.bus_gate.Reads as bus-gate-reads
-use Rattle.calls.proofs.given.given.Reads as given-reads
+use Rattle.state.proofs.given.given.Reads as given-reads
 
 bus-gate-requires : tie.Need-bus-gate-requires
 bus-gate-requires c κs = search needs

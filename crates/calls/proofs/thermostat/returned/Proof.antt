@@ -7,8 +7,8 @@ use Rattle.calls.proofs.thermostat.returned.Tie as tie
 use Rattle.calls.proofs.thermostat.returned.Reads as reads
 use Rattle.calls.proofs.thermostat.returned.Lts as lts
 use Rattle.state.proofs.parts.with_remote.Reads as with-remote-reads
-use Rattle.state.proofs.remote.by_panel.Reads as by-panel-reads
-use Rattle.calls.proofs.given.given.Reads as given-reads
+use Rattle.remote.proofs.remote.by_panel.Reads as by-panel-reads
+use Rattle.state.proofs.given.given.Reads as given-reads
 use Rattle.calls.proofs.thermostat.thermostat_gate.Reads as thermostat-gate-reads
 
 thermostat-gate-requires : tie.Need-thermostat-gate-requires

@@ -8,7 +8,7 @@ use Rattle.calls.proofs.thermostat.status_set.Reads as reads
 use Rattle.calls.proofs.thermostat.status_set.Lts as lts
 use Rattle.state.proofs.parts.with_port.Reads as with-port-reads
 use Rattle.state.proofs.parts.with_status.Reads as with-status-reads
-use Rattle.calls.proofs.given.given.Reads as given-reads
+use Rattle.state.proofs.given.given.Reads as given-reads
 use Rattle.calls.proofs.thermostat.thermostat_gate.Reads as thermostat-gate-reads
 
 thermostat-gate-requires : tie.Need-thermostat-gate-requires

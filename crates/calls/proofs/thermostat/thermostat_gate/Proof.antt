@@ -4,7 +4,7 @@ use Rattle.calls.proofs.thermostat.thermostat_gate.Statement.{statement
 use Rattle.calls.proofs.thermostat.thermostat_gate.Tie as tie
 use Rattle.calls.proofs.thermostat.thermostat_gate.Reads as reads
 use Rattle.calls.proofs.thermostat.thermostat_gate.Lts as lts
-use Rattle.state.proofs.sound.sound.Reads as sound-reads
+use Rattle.soundness.proofs.sound.sound.Reads as sound-reads
 
 sound-requires : tie.Need-sound-requires
 sound-requires c κs = search needs

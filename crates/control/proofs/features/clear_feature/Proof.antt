@@ -7,7 +7,7 @@ use Rattle.control.proofs.features.clear_feature.Lts as lts
 use Rattle.state.proofs.parts.with_in.Reads as with-in-reads
 use Rattle.control.proofs.features.clear_feature_in.Reads as clear-feature-in-reads
 use Rattle.control.proofs.features.clear_feature_out.Reads as clear-feature-out-reads
-use Rattle.control.proofs.says.says_0.Reads as says-0-reads
+use Rattle.splits.proofs.says.says_0.Reads as says-0-reads
 
 enum-told : tie.Need-enum-told
 enum-told c = search needs

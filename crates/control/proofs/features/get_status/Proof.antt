@@ -4,7 +4,7 @@ use Rattle.control.proofs.features.get_status.Statement.{statement}
 use Rattle.control.proofs.features.get_status.Tie as tie
 use Rattle.control.proofs.features.get_status.Reads as reads
 use Rattle.control.proofs.features.get_status.Lts as lts
-use Rattle.control.proofs.says.says_2.Reads as says-2-reads
+use Rattle.splits.proofs.says.says_2.Reads as says-2-reads
 
 enum-told : tie.Need-enum-told
 enum-told c = search needs

@@ -8,7 +8,7 @@ use Rattle.state.proofs.parts.broken.Reads as broken-reads
 use Rattle.state.proofs.parts.with_in.Reads as with-in-reads
 use Rattle.state.proofs.parts.with_in_halted.Reads as with-in-halted-reads
 use Rattle.state.proofs.parts.with_out.Reads as with-out-reads
-use Rattle.control.proofs.says.says_0.Reads as says-0-reads
+use Rattle.splits.proofs.says.says_0.Reads as says-0-reads
 
 enum-told : tie.Need-enum-told
 enum-told c = search needs

@@ -4,21 +4,21 @@ use Rattle.control.proofs.rows.answer_row.Statement.{statement}
 use Rattle.control.proofs.rows.answer_row.Tie as tie
 use Rattle.control.proofs.rows.answer_row.Reads as reads
 use Rattle.control.proofs.rows.answer_row.Lts as lts
-use Rattle.control.proofs.aborts.check_abort_in.Reads as check-abort-in-reads
-use Rattle.control.proofs.aborts.check_abort_out.Reads as check-abort-out-reads
-use Rattle.control.proofs.clear.check_clear.Reads as check-clear-reads
+use Rattle.splits.proofs.aborts.check_abort_in.Reads as check-abort-in-reads
+use Rattle.splits.proofs.aborts.check_abort_out.Reads as check-abort-out-reads
+use Rattle.splits.proofs.clear.check_clear.Reads as check-clear-reads
 use Rattle.control.proofs.features.clear_feature.Reads as clear-feature-reads
 use Rattle.control.proofs.rows.get_capabilities.Reads as get-capabilities-reads
 use Rattle.control.proofs.features.get_status.Reads as get-status-reads
 use Rattle.control.proofs.rows.go_to_local.Reads as go-to-local-reads
 use Rattle.control.proofs.rows.indicator_pulse.Reads as indicator-pulse-reads
-use Rattle.control.proofs.aborts.initiate_abort_in.Reads as initiate-abort-in-reads
-use Rattle.control.proofs.aborts.initiate_abort_out.Reads as initiate-abort-out-reads
-use Rattle.control.proofs.clear.initiate_clear.Reads as initiate-clear-reads
+use Rattle.splits.proofs.aborts.initiate_abort_in.Reads as initiate-abort-in-reads
+use Rattle.splits.proofs.aborts.initiate_abort_out.Reads as initiate-abort-out-reads
+use Rattle.splits.proofs.clear.initiate_clear.Reads as initiate-clear-reads
 use Rattle.control.proofs.rows.local_lockout.Reads as local-lockout-reads
 use Rattle.control.proofs.rows.read_status_byte.Reads as read-status-byte-reads
 use Rattle.control.proofs.rows.ren_control.Reads as ren-control-reads
-use Rattle.control.proofs.says.says_1.Reads as says-1-reads
+use Rattle.splits.proofs.says.says_1.Reads as says-1-reads
 use Rattle.control.proofs.features.set_feature.Reads as set-feature-reads
 
 enum-known-row : tie.Need-enum-known-row

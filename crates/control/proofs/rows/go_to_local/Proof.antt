@@ -5,8 +5,8 @@ use Rattle.control.proofs.rows.go_to_local.Tie as tie
 use Rattle.control.proofs.rows.go_to_local.Reads as reads
 use Rattle.control.proofs.rows.go_to_local.Lts as lts
 use Rattle.state.proofs.parts.with_remote.Reads as with-remote-reads
-use Rattle.control.proofs.says.says_1.Reads as says-1-reads
-use Rattle.state.proofs.remote.to_local.Reads as to-local-reads
+use Rattle.splits.proofs.says.says_1.Reads as says-1-reads
+use Rattle.remote.proofs.remote.to_local.Reads as to-local-reads
 
 to-local-requires : tie.Need-to-local-requires
 to-local-requires c κs = search needs

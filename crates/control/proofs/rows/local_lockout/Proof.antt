@@ -5,8 +5,8 @@ use Rattle.control.proofs.rows.local_lockout.Tie as tie
 use Rattle.control.proofs.rows.local_lockout.Reads as reads
 use Rattle.control.proofs.rows.local_lockout.Lts as lts
 use Rattle.state.proofs.parts.with_remote.Reads as with-remote-reads
-use Rattle.state.proofs.remote.locked_out.Reads as locked-out-reads
-use Rattle.control.proofs.says.says_1.Reads as says-1-reads
+use Rattle.remote.proofs.remote.locked_out.Reads as locked-out-reads
+use Rattle.splits.proofs.says.says_1.Reads as says-1-reads
 
 locked-out-requires : tie.Need-locked-out-requires
 locked-out-requires c κs = search needs

@@ -4,8 +4,8 @@ use Rattle.control.proofs.rows.read_status_byte.Statement.{statement}
 use Rattle.control.proofs.rows.read_status_byte.Tie as tie
 use Rattle.control.proofs.rows.read_status_byte.Reads as reads
 use Rattle.control.proofs.rows.read_status_byte.Lts as lts
-use Rattle.control.proofs.says.says_3.Reads as says-3-reads
-use Rattle.control.proofs.rows.shown.Reads as shown-reads
+use Rattle.splits.proofs.says.says_3.Reads as says-3-reads
+use Rattle.splits.proofs.says.shown.Reads as shown-reads
 
 shown-requires : tie.Need-shown-requires
 shown-requires c κs = search needs

@@ -7,7 +7,7 @@ use Rattle.control.proofs.rows.ren_control.Reads as reads
 use Rattle.control.proofs.rows.ren_control.Lts as lts
 use Rattle.state.proofs.parts.with_port.Reads as with-port-reads
 use Rattle.state.proofs.parts.with_ren.Reads as with-ren-reads
-use Rattle.state.proofs.remote.local_now.Reads as local-now-reads
+use Rattle.remote.proofs.remote.local_now.Reads as local-now-reads
 
 with-ren-requires : tie.Need-with-ren-requires
 with-ren-requires c κs = search needs

@@ -1,5 +1,5 @@
 use Rattle.control.proofs.RowLaws.{row-served, row-unserved}
-use Rattle.control.specs.Control.{controlOf}
+use Rattle.splits.specs.Control.{controlOf}
 use mathlib.Core.Path.{_≡_, refl, sym, ap, _∙_}
 use borrow.Author.Needs.{needs}
 use Rattle.control.proofs.serve.asks.Statement.{statement}

@@ -4,7 +4,7 @@ use Rattle.control.proofs.serve.configure.Statement.{statement}
 use Rattle.control.proofs.serve.configure.Tie as tie
 use Rattle.control.proofs.serve.configure.Reads as reads
 use Rattle.control.proofs.serve.configure.Lts as lts
-use Rattle.control.proofs.says.says_0.Reads as says-0-reads
+use Rattle.splits.proofs.says.says_0.Reads as says-0-reads
 use Rattle.state.proofs.parts.fresh.Reads as fresh-reads
 
 fresh-requires : tie.Need-fresh-requires

@@ -11,7 +11,7 @@ use Rattle.control.proofs.serve.serve.Reads as serve-reads
 use Rattle.control.proofs.serve.setup_gate.Reads as setup-gate-reads
 use Rattle.control.proofs.serve.wipes.Reads as wipes-reads
 use Rattle.wire.proofs.copies.copy_in.Reads as copy-in-reads
-use Rattle.wire.proofs.setup.read_setup.Reads as read-setup-reads
+use Rattle.setups.proofs.setup.read_setup.Reads as read-setup-reads
 
 setup-gate-requires : tie.Need-setup-gate-requires
 setup-gate-requires c κs = search needs

@@ -6,7 +6,7 @@ use Rattle.packets.proofs.out.message_accepted.Tie as tie
 use Rattle.packets.proofs.out.message_accepted.Reads as reads
 use Rattle.packets.proofs.out.message_accepted.Lts as lts
 use Rattle.packets.proofs.out.absorbed.Reads as absorbed-reads
-use Rattle.state.proofs.remote.heard.Reads as heard-reads
+use Rattle.remote.proofs.remote.heard.Reads as heard-reads
 
 cast-t14 : tie.Need-cast-t14
 cast-t14 c = search needs

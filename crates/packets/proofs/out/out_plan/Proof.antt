@@ -6,7 +6,7 @@ use Rattle.packets.proofs.out.out_plan.Statement.{statement}
 use Rattle.packets.proofs.out.out_plan.Tie as tie
 use Rattle.packets.proofs.out.out_plan.Reads as reads
 use Rattle.packets.proofs.out.out_plan.Lts as lts
-use Rattle.packets.proofs.out.outcome.Reads as outcome-reads
+use Rattle.outcomes.proofs.outcome.outcome.Reads as outcome-reads
 use Rattle.packets.proofs.out.planned.Reads as planned-reads
 
 outcome-requires : tie.Need-outcome-requires

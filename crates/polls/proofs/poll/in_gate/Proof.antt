@@ -6,7 +6,7 @@ use Rattle.polls.proofs.poll.in_gate.Statement.{statement}
 use Rattle.polls.proofs.poll.in_gate.Tie as tie
 use Rattle.polls.proofs.poll.in_gate.Reads as reads
 use Rattle.polls.proofs.poll.in_gate.Lts as lts
-use Rattle.state.proofs.sound.sound.Reads as sound-reads
+use Rattle.soundness.proofs.sound.sound.Reads as sound-reads
 use Rattle.wire.proofs.numbers.widened.Reads as widened-reads
 use Rattle.polls.proofs.poll.nothing_to_send.Reads as nothing-to-send-reads
 

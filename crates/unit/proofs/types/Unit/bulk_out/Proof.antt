@@ -4,7 +4,7 @@ use Rattle.unit.proofs.types.Unit.bulk_out.Statement.{statement}
 use Rattle.unit.proofs.types.Unit.bulk_out.Tie as tie
 use Rattle.unit.proofs.types.Unit.bulk_out.Reads as reads
 use Rattle.unit.proofs.types.Unit.bulk_out.Lts as lts
-use Rattle.unit.proofs.packet.packet_step.Reads as packet-step-reads
+use Rattle.packets.proofs.store.packet_step.Reads as packet-step-reads
 
 packet-step-requires : tie.Need-packet-step-requires
 packet-step-requires c κs = search needs

@@ -5,7 +5,7 @@ use Rattle.unit.proofs.types.Unit.new.Statement.{statement}
 use Rattle.unit.proofs.types.Unit.new.Tie as tie
 use Rattle.unit.proofs.types.Unit.new.Reads as reads
 use Rattle.unit.proofs.types.Unit.new.Lts as lts
-use Rattle.state.proofs.sound.is_size.Reads as is-size-reads
+use Rattle.soundness.proofs.sound.is_size.Reads as is-size-reads
 use Rattle.unit.proofs.types.Unit.made.Reads as made-reads
 
 is-size-requires : tie.Need-is-size-requires

@@ -4,7 +4,7 @@ use Rattle.unit.proofs.types.Unit.offer.Statement.{statement}
 use Rattle.unit.proofs.types.Unit.offer.Tie as tie
 use Rattle.unit.proofs.types.Unit.offer.Reads as reads
 use Rattle.unit.proofs.types.Unit.offer.Lts as lts
-use Rattle.unit.proofs.reply.offer_step.Reads as offer-step-reads
+use Rattle.messages.proofs.offer.offer_step.Reads as offer-step-reads
 
 offer-step-requires : tie.Need-offer-step-requires
 offer-step-requires c κs = search needs

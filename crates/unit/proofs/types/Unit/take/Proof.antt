@@ -5,7 +5,7 @@ use Rattle.unit.proofs.types.Unit.take.Statement.{statement}
 use Rattle.unit.proofs.types.Unit.take.Tie as tie
 use Rattle.unit.proofs.types.Unit.take.Reads as reads
 use Rattle.unit.proofs.types.Unit.take.Lts as lts
-use Rattle.calls.proofs.take.take_step.Reads as take-step-reads
+use Rattle.messages.proofs.take.take_step.Reads as take-step-reads
 
 take-step-requires : tie.Need-take-step-requires
 take-step-requires c κs = search needs

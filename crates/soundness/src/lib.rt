@@ -1,0 +1,2 @@
+// Whether a state is sound.
+pub mod sound; // part by part

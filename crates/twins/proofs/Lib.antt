@@ -1,0 +1,2 @@
+-- The law LiveAgrees, proved of our step.
+pub mod Agree
