@@ -1,11 +1,11 @@
 // The answer to a call that was played.
-use lines::text::put;
-use lines::text::put_byte;
-use lines::text::put_decimal;
-use lines::text::put_hex;
 use rules::DONE;
 use rules::TELLS_PULSE;
 use rules::TELLS_TRIGGER;
+use words::text::put;
+use words::text::put_byte;
+use words::text::put_decimal;
+use words::text::put_hex;
 
 // What a lent buffer is filled with before a call.
 pub const FILL: u8 = 0xa5;

@@ -1,8 +1,4 @@
 // The answer to `state`: the parts of a unit on one line.
-use lines::text::put;
-use lines::text::put_byte;
-use lines::text::put_decimal;
-use lines::text::put_pair;
 use port::types::BulkIn;
 use port::types::BulkOut;
 use port::types::OWED;
@@ -10,6 +6,10 @@ use port::types::Port;
 use port::types::Remote;
 use port::types::Small;
 use port::types::Split;
+use words::text::put;
+use words::text::put_byte;
+use words::text::put_decimal;
+use words::text::put_pair;
 
 // 0 or 1.
 fn put_flag(out: &mut [u8], at: usize, is_set: bool) -> usize {

@@ -3,14 +3,14 @@ use crate::names::Name;
 use crate::names::least_words;
 use crate::names::most_words;
 use crate::names::name_of;
-use crate::words::Word;
-use crate::words::next_word;
-use crate::words::part;
-use crate::words::said;
 use crate::wrong::too_few_words;
 use crate::wrong::too_long;
 use crate::wrong::too_many_words;
 use crate::wrong::unknown_name;
+use words::words::Word;
+use words::words::next_word;
+use words::words::part;
+use words::words::said;
 
 // The most bytes of a line, its newline not counted.
 pub const LONGEST: usize = 4096;

@@ -1,12 +1,12 @@
 // What a word gives, or the answer that says what is wrong with it.
-use crate::numbers::BYTES;
-use crate::numbers::ReadDecimal;
-use crate::numbers::ReadHex;
-use crate::numbers::decimal;
-use crate::numbers::hex;
 use crate::wrong::no_status;
 use crate::wrong::wrong_decimal;
 use crate::wrong::wrong_hex;
+use words::numbers::BYTES;
+use words::numbers::ReadDecimal;
+use words::numbers::ReadHex;
+use words::numbers::decimal;
+use words::numbers::hex;
 
 // The largest packet size and buffer that can be read.
 const LARGEST_SIZE: u16 = 65535;

@@ -1,5 +1,5 @@
 // The names of the calls, and how many words stand behind each.
-use crate::words::same;
+use words::words::same;
 
 pub enum Name {
     Power,

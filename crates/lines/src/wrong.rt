@@ -1,9 +1,9 @@
 // The answers to lines that cannot be read: `? ` and what is wrong, in words.
-use crate::numbers::ReadDecimal;
-use crate::numbers::ReadHex;
-use crate::text::put;
-use crate::text::put_byte;
-use crate::text::put_decimal;
+use words::numbers::ReadDecimal;
+use words::numbers::ReadHex;
+use words::text::put;
+use words::text::put_byte;
+use words::text::put_decimal;
 
 // The most bytes of a word that are shown.
 const SHOWN: usize = 24;

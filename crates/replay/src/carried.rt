@@ -10,12 +10,12 @@ use lines::given::given_bytes;
 use lines::given::given_length;
 use lines::given::given_size;
 use lines::given::given_status;
-use lines::numbers::BYTES;
-use lines::numbers::start;
 use port::types::STORE;
 use port::types::Setting;
 use unit::types::Done;
 use unit::types::Unit;
+use words::numbers::BYTES;
+use words::numbers::start;
 
 // The buffer that a setup packet is lent where none is named.
 const CONTROL_BUFFER: usize = 24;

@@ -3,15 +3,15 @@ use crate::line::play;
 use libc::STDERR_FILENO;
 use libc::STDOUT_FILENO;
 use lines::asked::LONGEST;
-use lines::text::put_byte;
-use lines::words::Word;
-use lines::words::find;
-use lines::words::first_part;
-use lines::words::part;
 use lines::wrong::too_long;
 use port::types::FULL_SPEED;
 use port::types::Setting;
 use unit::types::Unit;
+use words::text::put_byte;
+use words::words::Word;
+use words::words::find;
+use words::words::first_part;
+use words::words::part;
 
 // The unit; how far the output is filled with answers, how far the lines in the input are played, and how many bytes of a line wait there
 // for its end. `is_long` says that the start of that line was too long to keep, `is_open` that there is more to read and write.

@@ -2,10 +2,10 @@
 use crate::played::Played;
 use answers::answer::FILL;
 use answers::answer::put_told;
-use lines::numbers::BYTES;
-use lines::numbers::start;
 use unit::types::Told;
 use unit::types::Unit;
+use words::numbers::BYTES;
+use words::numbers::start;
 
 // The first n bytes of a buffer, or all where there are fewer.
 fn first_lent(buffer: &mut [u8], n: usize) -> &mut [u8] {

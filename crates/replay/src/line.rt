@@ -12,8 +12,8 @@ use crate::played::Played;
 use lines::asked::Asked;
 use lines::asked::read_line;
 use lines::names::Name;
-use lines::words::part;
 use unit::types::Unit;
+use words::words::part;
 
 fn carried_out(
     unit: Unit,

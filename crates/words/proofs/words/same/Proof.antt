@@ -2,8 +2,8 @@
 use Prim.Native.Nat.{_≤_, _-_}
 use borrow.Author.Needs.{needs}
 use lib.ListN.{length}
-use Rattle.lines.proofs.words.same.Statement.{statement}
-use Rattle.lines.proofs.words.same.Tie as tie
+use Rattle.words.proofs.words.same.Statement.{statement}
+use Rattle.words.proofs.words.same.Tie as tie
 
 abbrev Inv-loop : tie.InvT-loop
 Inv-loop a b i₀ i = i ≤ length a

@@ -3,8 +3,8 @@ use Prim.Native.Nat.{_≤_, _-_}
 use mathlib.Core.Path.{_≡_}
 use borrow.Author.Needs.{needs}
 use lib.ListN.{length}
-use Rattle.lines.proofs.numbers.pairs.Statement.{statement}
-use Rattle.lines.proofs.numbers.pairs.Tie as tie
+use Rattle.words.proofs.numbers.pairs.Statement.{statement}
+use Rattle.words.proofs.numbers.pairs.Tie as tie
 
 abbrev Inv-loop : tie.InvT-loop
 Inv-loop word bytes₀ last count₀ i₀ bytes count i = (i ≤ length word) × (length bytes ≡ length bytes₀)

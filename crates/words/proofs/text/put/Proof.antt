@@ -3,8 +3,8 @@ use Prim.Native.Nat.{_≤_, _-_}
 use mathlib.Core.Path.{_≡_}
 use borrow.Author.Needs.{needs}
 use lib.ListN.{length}
-use Rattle.lines.proofs.text.put.Statement.{statement}
-use Rattle.lines.proofs.text.put.Tie as tie
+use Rattle.words.proofs.text.put.Statement.{statement}
+use Rattle.words.proofs.text.put.Tie as tie
 
 abbrev Inv-loop : tie.InvT-loop
 Inv-loop out₀ at text end₀ i₀ out end i = (i ≤ length text) × (length out ≡ length out₀)

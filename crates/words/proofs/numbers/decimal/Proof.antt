@@ -2,8 +2,8 @@
 use Prim.Native.Nat.{_≤_, _-_}
 use borrow.Author.Needs.{needs}
 use lib.ListN.{length}
-use Rattle.lines.proofs.numbers.decimal.Statement.{statement}
-use Rattle.lines.proofs.numbers.decimal.Tie as tie
+use Rattle.words.proofs.numbers.decimal.Statement.{statement}
+use Rattle.words.proofs.numbers.decimal.Tie as tie
 
 abbrev Inv-loop : tie.InvT-loop
 Inv-loop word most n₀ i₀ n i = i ≤ length word

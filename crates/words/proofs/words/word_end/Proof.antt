@@ -1,24 +1,24 @@
--- `lines::numbers::wrong_hex` is safe and ends: the index stays within the word.
+-- `lines::words::word_end` is safe and ends: what is left of the text falls.
 use Prim.Native.Nat.{_≤_, _-_}
 use borrow.Author.Needs.{needs}
 use lib.ListN.{length}
-use Rattle.lines.proofs.numbers.wrong_hex.Statement.{statement}
-use Rattle.lines.proofs.numbers.wrong_hex.Tie as tie
+use Rattle.words.proofs.words.word_end.Statement.{statement}
+use Rattle.words.proofs.words.word_end.Tie as tie
 
 abbrev Inv-loop : tie.InvT-loop
-Inv-loop word i₀ i = i ≤ length word
+Inv-loop text from i₀ i = 0 ≤ i
 
 abbrev μ-loop : tie.MeasureT-loop
-μ-loop word i₀ i = length word - i
+μ-loop text from i₀ i = length text - i
 
 loop-holds : tie.Need-loop-holds Inv-loop μ-loop
 loop-holds c = search needs
 
-shared-slice-read-byte : tie.Need-shared-slice-read-byte Inv-loop μ-loop
-shared-slice-read-byte c = search needs
+shared-slice-read-is-blank : tie.Need-shared-slice-read-is-blank Inv-loop μ-loop
+shared-slice-read-is-blank c = search needs
 
-nibble-requires : tie.Need-nibble-requires Inv-loop μ-loop
-nibble-requires c κs = search needs
+is-blank-requires : tie.Need-is-blank-requires Inv-loop μ-loop
+is-blank-requires c κs = search needs
 
 returns : tie.Need-returns Inv-loop μ-loop
 returns c = search needs
@@ -35,15 +35,15 @@ loop-again c = search needs
 returns-2 : tie.Need-returns-2 Inv-loop μ-loop
 returns-2 c = search needs
 
-pub wrong-hex-spec : {M : Type 1} → statement M
-wrong-hex-spec =
+pub word-end-spec : {M : Type 1} → statement M
+word-end-spec =
     tie.close
     (tie.spec
     Inv-loop
     μ-loop
     loop-holds
-    shared-slice-read-byte
-    nibble-requires
+    shared-slice-read-is-blank
+    is-blank-requires
     returns
     add-i
     loop-less
