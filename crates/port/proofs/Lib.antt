@@ -13,3 +13,4 @@ pub mod Alive
 pub mod Agree
 pub mod Clearing
 pub mod Answered
+pub mod Silent
