@@ -14,7 +14,7 @@ use Rattle.rules.proofs.Choice.{pick-true, pick-false, refuses, passes}
 use Rattle.wire.specs.Header.{OFF}
 use Rattle.wire.specs.Bytes.{into}
 use Rattle.port.specs.Parts.{FULL-SPEED, isSize, fresh, outOf}
-use Rattle.port.specs.In.{Said, number, Answer as Spoken}
+use Rattle.port.specs.In.{Said, number}
 use Rattle.port.specs.Out.{outPlan, Room}
 use Rattle.port.specs.Device.{Device, Result, zeroed, made, powerOn}
 use Rattle.port.specs.Given.{givenOf, Hands}
@@ -28,11 +28,8 @@ use Rattle.control.specs.declared.types.Served.{Served}
 use Rattle.flat.specs.Flat.{stateIn, bytesOf, isUnit, messageBytes, replyBytes, stateBytes, opened, shut}
 use Rattle.flat.proofs.Places.{message-long, reply-long, state-long, parted, into-state, into-message, into-reply, over-both}
 use Rattle.flat.proofs.Again.{bytes-long}
-use Rattle.tewennos.specs.Promise.{Left, shutOf, onBytes, Leaves, Fills}
+use Rattle.tewennos.specs.Promise.{Left, shutOf, onBytes, Leaves, Fills, answerOf}
 use Rattle.tewennos.specs.declared.types.Answer.{Answer}
-
-abbrev pub answerOf : Spoken → Answer
-answerOf a = record { number = a .number; tells = a .tells; len = length (a .bytes) }
 
 in-bytes : (q : Result) (u′ : List ℕ) (a : Answer) → u′ ≡ shut (q .unit) → a ≡ answerOf (q .answer) → Leaves (shutOf q) u′ a
 in-bytes q u′ a e f = record { unit = e; number = ap (λ (x : Answer). x .number) f; tells = ap (λ (x : Answer). x .tells) f; len = ap (λ (x : Answer). x .len) f }

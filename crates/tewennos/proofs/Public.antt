@@ -2,19 +2,18 @@
 -- unit's they are the definitions' step (`..-step`). Bytes that are no unit's are answered 1 and stay (`no-unit`).
 -- Assumes nothing.
 use Prim.Native.Nat.{ℕ}
-use mathlib.Core.Path.{_≡_, refl, sym, ap, subst, _∙_}
+use mathlib.Core.Path.{_≡_, sym, ap, subst, _∙_}
 use mathlib.Core.Bool.{true, false}
 use mathlib.Core.List.{List, []}
 use lib.ListN.{length, take, drop}
 use lib.Seq.{take-at, drop-at}
 use Rattle.wire.specs.Bytes.{into}
-use Rattle.port.specs.In.{number}
 use Rattle.port.specs.Device.{Device, Result, powerOn}
 use Rattle.port.specs.Calls.{bulkOut, bulkIn, setup, take-message, offer, setStatus, panel, busReset, suspend}
 use Rattle.port.specs.Step.{setup-packet, out-packet, in-poll, take-into, offer-reply, set-status, front-panel, bus-reset, bus-suspend, step}
 use Rattle.port.specs.declared.types.Setting.{Setting}
 use Rattle.port.proofs.Silent.{power-silent, packet-silent, offer-silent, status-silent, panel-silent, suspend-silent, reset-silent}
-use Rattle.flat.specs.Flat.{isUnit, opened, shut}
+use Rattle.flat.specs.Flat.{isUnit, opened}
 use Rattle.tewennos.specs.Promise.{Left, shutOf, onBytes, Leaves, Fills, IsStep, IsStepInto}
 use Rattle.tewennos.specs.declared.types.Answer.{Answer}
 use Rattle.tewennos.proofs.Called.{on-unit, on-none}

@@ -1,2 +1,3 @@
--- What a call from C promises.
+-- What a call from C promises, and a run of calls.
 pub mod Promise
+pub mod Run

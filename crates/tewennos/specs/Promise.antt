@@ -35,6 +35,10 @@ pub record Fills (q : Left) (b b′ u′ : List ℕ) (r : Answer) : Type 0 where
   pub left : Leaves q u′ r
   pub buffer : b′ ≡ into (q .answer .bytes) b
 
+-- an answer as C has it: its bytes are in the lent buffer
+abbrev pub answerOf : Said → Answer
+answerOf a = record { number = a .number; tells = a .tells; len = length (a .bytes) }
+
 -- ** what it is for a unit's bytes and an answer to be the definitions' step `q`: the unit, the number, what it tells, its bytes, and the lent buffer
 
 pub record IsStep (q : Result) (u′ : List ℕ) (r : Answer) : Type 0 where
