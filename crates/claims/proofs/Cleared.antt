@@ -37,7 +37,7 @@ use Rattle.port.specs.declared.types.State.{State}
 use Rattle.port.proofs.Opened.{computed}
 use Rattle.port.proofs.Soundness.{Sound, ClearSound, SplitSound, Phase, is-closed, is-asked, is-sending, is-owed, sound-of, sound-to}
 use Rattle.port.proofs.KeepsOut.{fresh-sound}
-use Rattle.port.proofs.Calls.{power-on-sound, keeps-sound, keeps-stored}
+use Rattle.port.proofs.Calls.{power-on-sound, power-on-stored, keeps-sound, keeps-stored}
 use Rattle.port.proofs.Alive.{alive-sound}
 use Rattle.twins.proofs.Agree.{live-agrees}
 use Rattle.claims.specs.Fresh.{SET-CONFIGURATION-1, SET-FEATURE-OUT, halted, resumed, freshUnit}
@@ -253,13 +253,7 @@ unfolding after
 kept-long [] u s h = (s, h)
 kept-long (c ∷ calls) u s h = kept-long calls (step u c .unit) (keeps-stored u c s) (keeps-sound u c h)
 
-on-stored : (setting : Setting) → Stored (powerOn setting .unit)
-unfolding powerOn made zeroed
-on-stored setting = pick-all (λ (r : Result). Stored (r .unit)) (isSize (setting .packet)) _ _
-    (λ _. record { message = length-replicate {A = ℕ} STORE 0; reply = length-replicate {A = ℕ} STORE 0 })
-    (λ _. record { message = length-replicate {A = ℕ} STORE 0; reply = length-replicate {A = ℕ} STORE 0 })
-
 pub clean-after-any-fault : CleanAfterAnyFault step
 clean-after-any-fault setting before later control e =
-    let q = kept-long before (powerOn setting .unit) (on-stored setting) (power-on-sound setting) in
+    let q = kept-long before (powerOn setting .unit) (power-on-stored setting) (power-on-sound setting) in
     clean-after-fault (after step (powerOn setting .unit) before) control later (q .0) (q .1) e

@@ -5,7 +5,7 @@ use Prim.Native.Nat.{ℕ, _+_, _≤_, min}
 use mathlib.Core.Path.{_≡_, refl, sym, ap, _∙_}
 use mathlib.Core.Bool.{true, false}
 use mathlib.Core.List.{List, [], _∷_, _++_}
-use lib.ListN.{length, take, drop, length-drop, length-replicate}
+use lib.ListN.{length, take, drop, length-drop}
 use lib.Seq.{paste, paste-zero}
 use mathlib.Core.Logic.{⊎-elim}
 use Rattle.rules.specs.Choice.{_=ᵇ_, no, pick}
@@ -37,7 +37,7 @@ use Rattle.port.specs.declared.types.Plan.{Plan}
 use Rattle.port.specs.declared.types.Outcome.{Outcome}
 use Rattle.port.specs.declared.types.Outcome.the-variants.{Keep, Halt, Data, Accept}
 use Rattle.port.proofs.Soundness.{OutSound, sound-of}
-use Rattle.port.proofs.Calls.{power-on-sound, keeps-sound, keeps-stored}
+use Rattle.port.proofs.Calls.{power-on-sound, power-on-stored, keeps-sound, keeps-stored}
 use Rattle.claims.specs.Wire.{trace, Line, free, History, Heard, nothing, data-bytes, broken-off, wiped-out, handed-over, carried, heardPacket, heard, joined, emptied, remembered, Legal, begun}
 use Rattle.claims.specs.Claims.{NoHalfCommand, NoHalfCommandEver}
 use Rattle.claims.proofs.Setups.{inRow, Told, told, heard-done, heard-refused}
@@ -233,14 +233,7 @@ legal (c ∷ calls) u h st so a =
 pub no-half-command : NoHalfCommand step
 no-half-command u calls st so = legal calls u (begun u) st so (begun-agrees u (sound-of _ so .out))
 
--- power-on has both stores, and holds nothing
-power-on-stored : (setting : Setting) → Stored (powerOn setting .unit)
-unfolding powerOn made zeroed
-power-on-stored setting = pick-all (λ (r : Result). Stored (r .unit)) (isSize (setting .packet)) _ _ (λ _. zeros _) (λ _. zeros _)
-  where
-    zeros : (setting : Setting) → Stored (made setting OFF)
-    zeros setting = record { message = length-replicate {A = ℕ} STORE 0; reply = length-replicate {A = ℕ} STORE 0 }
-
+-- power-on holds nothing
 power-on-agrees : (setting : Setting) → Agree (outOf (powerOn setting .unit .state)) (powerOn setting .unit .message) emptied
 unfolding powerOn made fresh
 power-on-agrees setting =

@@ -89,6 +89,31 @@ pub bytes-long : (st : State) → length (bytesOf st) ≡ 36
 unfolding bytesOf
 bytes-long st = refl
 
+-- a unit shut: its two stores stand in front, and the bytes of its state behind them
+module _ (d : Device) (m-long : length (d .message) ≡ 1024) (r-long : length (d .reply) ≡ 1024) where
+  abbrev m : List ℕ
+  m = d .message
+
+  abbrev r : List ℕ
+  r = d .reply
+
+  abbrev f : List ℕ
+  f = bytesOf (d .state)
+
+  pub message-shut : messageBytes (shut d) ≡ d .message
+  unfolding shut
+  message-shut = ap (take 1024) (append-assoc m r f) ∙ take-at m (r ++ f) 1024 m-long
+
+  pub reply-shut : replyBytes (shut d) ≡ d .reply
+  unfolding shut
+  reply-shut = ap (λ (g : List ℕ). take 1024 (drop 1024 g)) (append-assoc m r f) ∙ ap (take 1024) (drop-at m (r ++ f) 1024 m-long) ∙ take-at r f 1024 r-long
+
+  pub state-shut : stateBytes (shut d) ≡ bytesOf (d .state)
+  unfolding shut
+  state-shut =
+      let front : length (m ++ r) ≡ 2048 = simp length-append (omega (arith, m-long, r-long)) in
+      ap (take 36) (drop-at (m ++ r) f 2048 front) ∙ take-all 36 f (omega (arith, bytes-long (d .state)))
+
 -- what a unit has that its bytes can hold
 pub record Fits (d : Device) : Type 0 where
   pub message : length (d .message) ≡ 1024
@@ -96,18 +121,11 @@ pub record Fits (d : Device) : Type 0 where
   pub narrow : Narrow (d .state)
 
 pub opened-shut : (d : Device) → Fits d → opened (shut d) ≡ d
-unfolding opened shut
+unfolding opened
 opened-shut d h =
-    let m = d .message in
-    let r = d .reply in
-    let f = bytesOf (d .state) in
-    let front : length (m ++ r) ≡ 2048 = simp length-append (omega (arith, h .message, h .reply)) in
-    let fields : stateIn (take 36 (drop 2048 (m ++ r ++ f))) ≡ d .state = ap (λ (g : List ℕ). stateIn (take 36 g)) (drop-at (m ++ r) f 2048 front) ∙ ap stateIn (take-all 36 f (omega (arith, bytes-long (d .state)))) ∙ state-again (d .state) (h .narrow) in
-    λ i. record {
-      message = (ap (take 1024) (append-assoc m r f) ∙ take-at m (r ++ f) 1024 (h .message)) i;
-      reply = (ap (λ (g : List ℕ). take 1024 (drop 1024 g)) (append-assoc m r f) ∙ ap (take 1024) (drop-at m (r ++ f) 1024 (h .message)) ∙ take-at r f 1024 (h .reply)) i;
-      state = fields i;
-    }
+    let m = h .message in
+    let r = h .reply in
+    λ i. record { message = message-shut d m r i; reply = reply-shut d m r i; state = (ap stateIn (state-shut d m r) ∙ state-again (d .state) (h .narrow)) i }
 
 -- ** back and there
 

@@ -1,4 +1,5 @@
 -- Laws that belong to no one function.
 pub mod Again
+pub mod Narrow
 pub mod Numbered
 pub mod Places

@@ -14,7 +14,7 @@ use Rattle.rules.proofs.Choice.{pick-true, pick-false, refuses, passes}
 use Rattle.wire.specs.Header.{OFF}
 use Rattle.wire.specs.Bytes.{into}
 use Rattle.port.specs.Parts.{FULL-SPEED, isSize, fresh, outOf}
-use Rattle.port.specs.In.{Said, number, Answer as Spoken}
+use Rattle.port.specs.In.{Said, number}
 use Rattle.port.specs.Out.{outPlan, Room}
 use Rattle.port.specs.Device.{Device, Result, zeroed, made, powerOn}
 use Rattle.port.specs.Given.{givenOf, Hands}
@@ -28,11 +28,8 @@ use Rattle.control.specs.declared.types.Served.{Served}
 use Rattle.flat.specs.Flat.{stateIn, bytesOf, isUnit, messageBytes, replyBytes, stateBytes, opened, shut}
 use Rattle.flat.proofs.Places.{message-long, reply-long, state-long, parted, into-state, into-message, into-reply, over-both}
 use Rattle.flat.proofs.Again.{bytes-long}
-use Rattle.flatcalls.specs.Promise.{Left, shutOf, onBytes, Leaves, Fills}
+use Rattle.flatcalls.specs.Promise.{Left, shutOf, onBytes, Leaves, Fills, answerOf}
 use Rattle.flatcalls.specs.declared.types.Answer.{Answer}
-
-abbrev pub answerOf : Spoken → Answer
-answerOf a = record { number = a .number; tells = a .tells; len = length (a .bytes) }
 
 in-bytes : (q : Result) (u′ : List ℕ) (a : Answer) → u′ ≡ shut (q .unit) → a ≡ answerOf (q .answer) → Leaves (shutOf q) u′ a
 in-bytes q u′ a e f = record { unit = e; number = ap (λ (x : Answer). x .number) f; tells = ap (λ (x : Answer). x .tells) f; len = ap (λ (x : Answer). x .len) f }
@@ -40,29 +37,29 @@ in-bytes q u′ a e f = record { unit = e; number = ap (λ (x : Answer). x .numb
 -- ** bytes that are a unit's, and bytes that are not
 
 module _ (call : Device → Result) (u : List ℕ) where
-  module _ (is : isUnit u ≡ true) (u′ : List ℕ) (a : Answer) (e : u′ ≡ shut (call (opened u) .unit)) (f : a ≡ answerOf (call (opened u) .answer)) where
-    on-unit : shutOf (call (opened u)) ≡ onBytes call u
-    unfolding onBytes
-    on-unit = pick-true _ _ _ _ is refl
+  pub on-unit : isUnit u ≡ true → shutOf (call (opened u)) ≡ onBytes call u
+  unfolding onBytes
+  on-unit is = pick-true _ _ _ _ is refl
 
+  pub on-none : isUnit u ≡ false → record { unit = u; answer = number 1 } ≡ onBytes call u
+  unfolding onBytes
+  on-none is = pick-false _ _ _ _ is refl
+
+  module _ (is : isUnit u ≡ true) (u′ : List ℕ) (a : Answer) (e : u′ ≡ shut (call (opened u) .unit)) (f : a ≡ answerOf (call (opened u) .answer)) where
     pub leaves : Leaves (onBytes call u) u′ a
-    leaves = subst (λ (q : Left). Leaves q u′ a) on-unit (in-bytes (call (opened u)) u′ a e f)
+    leaves = subst (λ (q : Left). Leaves q u′ a) (on-unit is) (in-bytes (call (opened u)) u′ a e f)
 
     pub fills : (b b′ : List ℕ) → b′ ≡ into (call (opened u) .answer .bytes) b → Fills (onBytes call u) b b′ u′ a
-    fills b b′ g = record { left = leaves; buffer = subst (λ (q : Left). b′ ≡ into (q .answer .bytes) b) on-unit g }
+    fills b b′ g = record { left = leaves; buffer = subst (λ (q : Left). b′ ≡ into (q .answer .bytes) b) (on-unit is) g }
 
   module _ (is : isUnit u ≡ false) (a : Answer) (f : a ≡ record { number = 1; tells = 0; len = 0 }) where
-    on-none : record { unit = u; answer = number 1 } ≡ onBytes call u
-    unfolding onBytes
-    on-none = pick-false _ _ _ _ is refl
-
     pub none-leaves : Leaves (onBytes call u) u a
     none-leaves =
-        subst (λ (q : Left). Leaves q u a) on-none
+        subst (λ (q : Left). Leaves q u a) (on-none is)
         (record { unit = refl; number = ap (λ (x : Answer). x .number) f; tells = ap (λ (x : Answer). x .tells) f; len = ap (λ (x : Answer). x .len) f })
 
     pub none-fills : (b : List ℕ) → Fills (onBytes call u) b b u a
-    none-fills b = record { left = none-leaves; buffer = subst (λ (q : Left). b ≡ into (q .answer .bytes) b) on-none refl }
+    none-fills b = record { left = none-leaves; buffer = subst (λ (q : Left). b ≡ into (q .answer .bytes) b) (on-none is) refl }
 
 -- ** the copies
 

@@ -2,8 +2,8 @@
 -- Assumes nothing.
 use Prim.Native.Nat.{ℕ}
 use mathlib.Core.Path.{_≡_}
-use mathlib.Core.List.{List}
-use lib.ListN.{length}
+use mathlib.Core.List.{List, []}
+use lib.ListN.{length, take, drop}
 use Rattle.rules.specs.Choice.{pick}
 use Rattle.rules.specs.Answers.{UNSOUND}
 use Rattle.wire.specs.Bytes.{into}
@@ -34,3 +34,23 @@ pub record Leaves (q : Left) (u′ : List ℕ) (r : Answer) : Type 0 where
 pub record Fills (q : Left) (b b′ u′ : List ℕ) (r : Answer) : Type 0 where
   pub left : Leaves q u′ r
   pub buffer : b′ ≡ into (q .answer .bytes) b
+
+-- an answer as C has it: its bytes are in the lent buffer
+abbrev pub answerOf : Said → Answer
+answerOf a = record { number = a .number; tells = a .tells; len = length (a .bytes) }
+
+-- ** what it is for a unit's bytes and an answer to be the definitions' step `q`: the unit, the number, what it tells, its bytes, and the lent buffer
+
+pub record IsStep (q : Result) (u′ : List ℕ) (r : Answer) : Type 0 where
+  pub unit : u′ ≡ shut (q .unit)
+  pub number : r .number ≡ q .answer .number
+  pub tells : r .tells ≡ q .answer .tells
+  pub bytes : q .answer .bytes ≡ []
+  pub len : r .len ≡ 0
+
+pub record IsStepInto (q : Result) (b b′ u′ : List ℕ) (r : Answer) : Type 0 where
+  pub unit : u′ ≡ shut (q .unit)
+  pub number : r .number ≡ q .answer .number
+  pub tells : r .tells ≡ q .answer .tells
+  pub bytes : take (r .len) b′ ≡ q .answer .bytes
+  pub rest : drop (r .len) b′ ≡ drop (r .len) b

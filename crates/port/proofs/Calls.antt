@@ -125,6 +125,10 @@ zeroed-stored : (setting : Setting) (configured : ℕ) → Stored (made setting 
 unfolding made zeroed
 zeroed-stored setting configured = record { message = length-replicate {A = ℕ} STORE 0; reply = length-replicate {A = ℕ} STORE 0 }
 
+pub power-on-stored : (setting : Setting) → Stored (powerOn setting .unit)
+unfolding powerOn
+power-on-stored setting = pick-all (λ (r : Result). Stored (r .unit)) (isSize (setting .packet)) _ _ (λ _. zeroed-stored _ OFF) (λ _. zeroed-stored _ OFF)
+
 module _ (u : Device) (c : Call) where
   -- the lines of a list of rules that keep: the first is 1
   keeps : (n : ℕ) → OneOf n (ownList c) → leaves n ≡ unchanged → (n ≡ UNSOUND → ⊥) → Way u c (refused u n)

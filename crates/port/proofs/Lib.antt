@@ -12,3 +12,4 @@ pub mod Broken
 pub mod Alive
 pub mod Clearing
 pub mod Answered
+pub mod Silent

@@ -2,18 +2,16 @@
 -- is the definitions' step (`..-step`). A promise is `r ≡ doneOf q`, or `Tells q b b′ r` where a buffer is lent; `q` is what the definitions give.
 -- Assumes nothing.
 use Prim.Native.Nat.{ℕ}
-use mathlib.Core.Path.{_≡_, refl, sym, ap, _∙_}
+use mathlib.Core.Path.{_≡_, sym, ap, _∙_}
 use mathlib.Core.List.{List, []}
 use lib.ListN.{length, take, drop}
 use lib.Seq.{take-at, drop-at}
-use Rattle.rules.proofs.Choice.{pick-all, decide-all}
 use Rattle.wire.specs.Bytes.{into}
-use Rattle.port.specs.Parts.{isSize}
-use Rattle.port.specs.In.{Said, refuse}
 use Rattle.port.specs.Device.{Device, Result, powerOn}
-use Rattle.port.specs.Calls.{refused, bulkOut, bulkIn, served, answered, setup, take-message, offer, thermostatRules, statusSet, setStatus, returned, panel, busRules, busReset, suspended, suspend}
+use Rattle.port.specs.Calls.{bulkOut, bulkIn, setup, take-message, offer, setStatus, panel, busReset, suspend}
 use Rattle.port.specs.Step.{setup-packet, out-packet, in-poll, take-into, offer-reply, set-status, front-panel, bus-reset, bus-suspend, step}
 use Rattle.port.specs.declared.types.Setting.{Setting}
+use Rattle.port.proofs.Silent.{power-silent, packet-silent, offer-silent, status-silent, panel-silent, suspend-silent, reset-silent}
 use Rattle.unit.specs.Promise.{deviceOf, doneOf, toldOf, Tells, IsStep, IsStepInto}
 use Rattle.unit.specs.declared.types.Unit.{Unit}
 use Rattle.unit.specs.declared.types.Done.{Done}
@@ -49,8 +47,7 @@ module _ (setting : Setting) (r : Done) (meets : r ≡ doneOf (powerOn setting))
   new-unique r′ = done-unique (powerOn setting) r r′ meets
 
   pub new-step : IsStep (powerOn setting) r
-  unfolding powerOn
-  new-step = done-step (powerOn setting) r (pick-all (λ (q : Result). q .answer .bytes ≡ []) (isSize (setting .packet)) _ _ (λ _. refl) (λ _. refl)) meets
+  new-step = done-step (powerOn setting) r (power-silent setting) meets
 
 -- ** the calls that write no lent buffer
 
@@ -60,24 +57,24 @@ module _ (u : Unit) (s : List ℕ) (r : Done) where
     bulk-out-unique r′ = done-unique (bulkOut (deviceOf u) s) r r′ meets
 
     pub bulk-out-step : IsStep (step (deviceOf u) (out-packet s)) r
-    unfolding step bulkOut
-    bulk-out-step = done-step (bulkOut (deviceOf u) s) r refl meets
+    unfolding step
+    bulk-out-step = done-step (bulkOut (deviceOf u) s) r (packet-silent (deviceOf u) s) meets
 
   module _ (meets : r ≡ doneOf (offer (deviceOf u) s)) where
     pub offer-unique : (r′ : Done) → r′ ≡ doneOf (offer (deviceOf u) s) → r ≡ r′
     offer-unique r′ = done-unique (offer (deviceOf u) s) r r′ meets
 
     pub offer-step : IsStep (step (deviceOf u) (offer-reply s)) r
-    unfolding step offer
-    offer-step = done-step (offer (deviceOf u) s) r refl meets
+    unfolding step
+    offer-step = done-step (offer (deviceOf u) s) r (offer-silent (deviceOf u) s) meets
 
 module _ (u : Unit) (status : ℕ) (r : Done) (meets : r ≡ doneOf (setStatus (deviceOf u) status)) where
   pub set-status-unique : (r′ : Done) → r′ ≡ doneOf (setStatus (deviceOf u) status) → r ≡ r′
   set-status-unique r′ = done-unique (setStatus (deviceOf u) status) r r′ meets
 
   pub set-status-step : IsStep (step (deviceOf u) (set-status status)) r
-  unfolding step setStatus statusSet
-  set-status-step = done-step (setStatus (deviceOf u) status) r (decide-all (λ (q : Said). q .answer .bytes ≡ []) (refuse (deviceOf u .state)) (thermostatRules (deviceOf u .state)) _ (refl, (refl, tt)) (λ _. refl)) meets
+  unfolding step
+  set-status-step = done-step (setStatus (deviceOf u) status) r (status-silent (deviceOf u) status) meets
 
 module _ (u : Unit) (r : Done) where
   module _ (meets : r ≡ doneOf (panel (deviceOf u))) where
@@ -85,24 +82,24 @@ module _ (u : Unit) (r : Done) where
     panel-unique r′ = done-unique (panel (deviceOf u)) r r′ meets
 
     pub panel-step : IsStep (step (deviceOf u) front-panel) r
-    unfolding step panel returned
-    panel-step = done-step (panel (deviceOf u)) r (decide-all (λ (q : Said). q .answer .bytes ≡ []) (refuse (deviceOf u .state)) (thermostatRules (deviceOf u .state)) _ (refl, (refl, tt)) (λ _. refl)) meets
+    unfolding step
+    panel-step = done-step (panel (deviceOf u)) r (panel-silent (deviceOf u)) meets
 
   module _ (meets : r ≡ doneOf (suspend (deviceOf u))) where
     pub suspend-unique : (r′ : Done) → r′ ≡ doneOf (suspend (deviceOf u)) → r ≡ r′
     suspend-unique r′ = done-unique (suspend (deviceOf u)) r r′ meets
 
     pub suspend-step : IsStep (step (deviceOf u) bus-suspend) r
-    unfolding step suspend suspended
-    suspend-step = done-step (suspend (deviceOf u)) r (decide-all (λ (q : Said). q .answer .bytes ≡ []) (refuse (deviceOf u .state)) (busRules (deviceOf u .state)) _ (refl, tt) (λ _. refl)) meets
+    unfolding step
+    suspend-step = done-step (suspend (deviceOf u)) r (suspend-silent (deviceOf u)) meets
 
   module _ (meets : r ≡ doneOf (busReset (deviceOf u))) where
     pub bus-reset-unique : (r′ : Done) → r′ ≡ doneOf (busReset (deviceOf u)) → r ≡ r′
     bus-reset-unique r′ = done-unique (busReset (deviceOf u)) r r′ meets
 
     pub bus-reset-step : IsStep (step (deviceOf u) bus-reset) r
-    unfolding step busReset answered served
-    bus-reset-step = done-step (busReset (deviceOf u)) r (decide-all (λ (q : Result). q .answer .bytes ≡ []) (refused (deviceOf u)) (busRules (deviceOf u .state)) _ (refl, tt) (λ _. refl)) meets
+    unfolding step
+    bus-reset-step = done-step (busReset (deviceOf u)) r (reset-silent (deviceOf u)) meets
 
 -- ** the calls that are lent a buffer
 

@@ -1,0 +1,2 @@
+-- A run of calls on the unit in bytes.
+pub mod Run
