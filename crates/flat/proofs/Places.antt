@@ -6,10 +6,10 @@ use mathlib.Core.List.{List, [], _∷_, _++_, append-assoc, append-nil, take-app
 use native.Mathlib.Omega.{arith}
 use native.Mathlib.Nat.{add-assoc}
 use lib.ListN.{length, take, drop, replicate, length-append, length-drop, length-replicate, replicate-append-replicate}
-use lib.Seq.{paste, take-append-le, drop-append-le, take-append-add, drop-append-add, take-all, take-add, drop-length, length-take-le, length-paste}
+use lib.Seq.{paste, take-append-le, drop-append-le, take-append-add, drop-append-add, take-all, take-add, drop-length, length-take-le, drop-drop, length-paste, take-paste, drop-paste}
 use Rattle.port.specs.Device.{zeroed}
 use Rattle.port.specs.declared.types.State.{State}
-use Rattle.flat.specs.Flat.{bytesOf, messageBytes, replyBytes, stateBytes}
+use Rattle.flat.specs.Flat.{portBytes, outBytes, inBytes, lastBytes, bytesOf, messageBytes, replyBytes, stateBytes}
 
 -- ** a copy into the first of two lists, into the second, and over all of one
 
@@ -33,6 +33,28 @@ paste-all x s n e d =
     ap (λ (a : List ℕ). a ++ drop (0 + n) x) (take-all n s (omega (arith, d)))
     ∙ ap (λ (a : List ℕ). s ++ a) (ap (λ (j : ℕ). drop j x) k ∙ drop-length x)
     ∙ append-nil s
+
+-- one copy behind another
+pub paste-next : (d : List ℕ) (at n : ℕ) (s t : List ℕ) (m : ℕ) → length s ≡ n → at + n ≤ length d → paste (paste d at s n) (at + n) t m ≡ paste d at (s ++ t) (n + m)
+paste-next d at n s t m e h =
+    let here : at ≤ length d = omega (arith, h) in
+    let whole : n ≤ length s = omega (arith, e) in
+    let both : take (n + m) (s ++ t) ≡ s ++ take m t = ap (λ (k : ℕ). take (k + m) (s ++ t)) (sym e) ∙ take-append-add s t m in
+    ap (λ (a : List ℕ). a ++ take m t ++ drop (at + n + m) (paste d at s n)) (take-paste d at s n here whole ∙ ap (λ (a : List ℕ). take at d ++ a) (take-all n s (omega (arith, e))))
+    ∙ ap (λ (a : List ℕ). take at d ++ s ++ take m t ++ a) (sym (drop-drop m (at + n) (paste d at s n)) ∙ ap (drop m) (drop-paste d at s n here whole) ∙ drop-drop m (at + n) d)
+    ∙ ap (λ (a : List ℕ). a ++ drop (at + n + m) d) (append-assoc (take at d) s (take m t) ∙ ap (λ (a : List ℕ). take at d ++ a) (sym both))
+    ∙ ap (λ (k : ℕ). take at d ++ take (n + m) (s ++ t) ++ drop k d) (add-assoc at n m)
+
+-- the four parts of a state, one behind the other
+pub state-in-four : (u : List ℕ) (at : ℕ) (st : State) → at + 36 ≤ length u → (p o b l v₁ v₂ v₃ v₄ : List ℕ)
+    → p ≡ portBytes (st .small .port) → o ≡ outBytes (st .small .bulkout) → b ≡ inBytes (st .small .bulkin) → l ≡ lastBytes (st .split) (st .remote)
+    → v₁ ≡ paste u at p 6 → v₂ ≡ paste v₁ (at + 6) o 10 → v₃ ≡ paste v₂ (at + 16) b 16 → v₄ ≡ paste v₃ (at + 32) l 4 → v₄ ≡ paste u at (bytesOf st) 36
+unfolding bytesOf
+state-in-four u at st h p o b l v₁ v₂ v₃ v₄ ep eo eb el e₁ e₂ e₃ e₄ =
+    let f₁ : v₁ ≡ paste u at (portBytes (st .small .port)) 6 = e₁ ∙ ap (λ (a : List ℕ). paste u at a 6) ep in
+    let f₂ : v₂ ≡ paste u at (portBytes (st .small .port) ++ outBytes (st .small .bulkout)) 16 = e₂ ∙ (λ i. paste (f₁ i) (at + 6) (eo i) 10) ∙ paste-next u at 6 (portBytes (st .small .port)) (outBytes (st .small .bulkout)) 10 refl (omega (arith, h)) in
+    let f₃ : v₃ ≡ paste u at (portBytes (st .small .port) ++ outBytes (st .small .bulkout) ++ inBytes (st .small .bulkin)) 32 = e₃ ∙ (λ i. paste (f₂ i) (at + 16) (eb i) 16) ∙ paste-next u at 16 (portBytes (st .small .port) ++ outBytes (st .small .bulkout)) (inBytes (st .small .bulkin)) 16 refl (omega (arith, h)) in
+    e₄ ∙ (λ i. paste (f₃ i) (at + 32) (el i) 4) ∙ paste-next u at 32 (portBytes (st .small .port) ++ outBytes (st .small .bulkout) ++ inBytes (st .small .bulkin)) (lastBytes (st .split) (st .remote)) 4 refl (omega (arith, h))
 
 -- ** the three parts of a unit
 

@@ -90,16 +90,22 @@ stateIn f = record {
 
 -- ** the bytes of a state
 
-unfoldable pub bytesOf : State → List ℕ
-bytesOf st =
-    let p = st .small .port in
-    let o = st .small .bulkout in
-    let b = st .small .bulkin in
-    bytes2 (p .setting .packet) ++ p .configured ∷ p .ren ∷ p .status ∷ 0 ∷
-    bytes2 (o .held) ++ bytes2 (o .left) ++ bytes2 (o .got) ++ o .end ∷ o .ready ∷ o .halted ∷ o .recent ∷
+abbrev pub portBytes : Port → List ℕ
+portBytes p = bytes2 (p .setting .packet) ++ p .configured ∷ p .ren ∷ p .status ∷ 0 ∷ []
+
+abbrev pub outBytes : BulkOut → List ℕ
+outBytes o = bytes2 (o .held) ++ bytes2 (o .left) ++ bytes2 (o .got) ++ o .end ∷ o .ready ∷ o .halted ∷ o .recent ∷ []
+
+abbrev pub inBytes : BulkIn → List ℕ
+inBytes b =
     bytes2 (b .at) ++ bytes2 (b .unsent) ++ bytes2 (b .asked) ++ bytes2 (b .left) ++ bytes2 (b .sent) ++
-    b .enabled ∷ b .term ∷ b .phase ∷ b .tag ∷ b .halted ∷ b .recent ∷
-    kindOf (st .split) ∷ placeOf (st .remote) ∷ bytes2 (countOf (st .split))
+    b .enabled ∷ b .term ∷ b .phase ∷ b .tag ∷ b .halted ∷ b .recent ∷ []
+
+abbrev pub lastBytes : Split → Remote → List ℕ
+lastBytes split remote = kindOf split ∷ placeOf remote ∷ bytes2 (countOf split)
+
+unfoldable pub bytesOf : State → List ℕ
+bytesOf st = portBytes (st .small .port) ++ outBytes (st .small .bulkout) ++ inBytes (st .small .bulkin) ++ lastBytes (st .split) (st .remote)
 
 -- the values that no state writes: the byte between, a fifth split or place, a count with no abort
 abbrev pub isAbort : ℕ → Bool

@@ -16,10 +16,7 @@ ghost use Prim.Native.Nat.{ℕ, _+_, _/_, _%_, _≤_};
 ghost use lib.ListN.{length};
 ghost use lib.Seq.{paste};
 ghost use Rattle.wire.specs.Bytes.{number2, byte, bytes2};
-ghost use Rattle.flat.specs.Flat.{splitOf, remoteOf, kindOf, countOf, placeOf, portIn, outIn, inIn, stateIn, isAbort, isKept, bytesOf};
-
-// Bytes of a state.
-pub const STATE: usize = 36;
+ghost use Rattle.flat.specs.Flat.{splitOf, remoteOf, kindOf, countOf, placeOf, portIn, outIn, inIn, stateIn, isAbort, isKept, portBytes, outBytes, inBytes, lastBytes, bytesOf};
 
 // The number of 16 bits from `at` on.
 fn number_at(f: &[u8], at: usize) -> u16
@@ -201,15 +198,9 @@ fn high16(n: u16) -> u8
     high(n as u32)
 }
 
-fn bytes_of(st: State) -> [u8; 36]
-    ensures { λ r. ⌜ r ≡ bytesOf st ⌝ }
+fn port_bytes(p: Port) -> [u8; 6]
+    ensures { λ r. ⌜ r ≡ portBytes p ⌝ }
 {
-    let p = st.small.port;
-    let o = st.small.bulkout;
-    let b = st.small.bulkin;
-    let split = st.split;
-    let remote = st.remote;
-    let count = count_of(split);
     [
         low16(p.setting.packet),
         high16(p.setting.packet),
@@ -217,6 +208,13 @@ fn bytes_of(st: State) -> [u8; 36]
         p.ren,
         p.status,
         0,
+    ]
+}
+
+fn out_bytes(o: BulkOut) -> [u8; 10]
+    ensures { λ r. ⌜ r ≡ outBytes o ⌝ }
+{
+    [
         low16(o.held),
         high16(o.held),
         low16(o.left),
@@ -227,6 +225,13 @@ fn bytes_of(st: State) -> [u8; 36]
         o.ready,
         o.halted,
         o.recent,
+    ]
+}
+
+fn in_bytes(b: BulkIn) -> [u8; 16]
+    ensures { λ r. ⌜ r ≡ inBytes b ⌝ }
+{
+    [
         low16(b.at),
         high16(b.at),
         low16(b.unsent),
@@ -243,6 +248,14 @@ fn bytes_of(st: State) -> [u8; 36]
         b.tag,
         b.halted,
         b.recent,
+    ]
+}
+
+fn last_bytes(split: Split, remote: Remote) -> [u8; 4]
+    ensures { λ r. ⌜ r ≡ lastBytes split remote ⌝ }
+{
+    let count = count_of(split);
+    [
         kind_of(split),
         place_of(remote),
         low16(count),
@@ -255,6 +268,14 @@ pub fn keep(u: &mut [u8], at: usize, st: State)
     requires { ⌜ at + 36 ≤ length (now u) ⌝ }
     ensures { λ _. ⌜ now (u .exit) ≡ paste (now (u .entry)) at (bytesOf st) 36 ⌝ }
 {
-    let bytes = bytes_of(st);
-    copy_in(u, at, &bytes, 0, STATE);
+    let split = st.split;
+    let remote = st.remote;
+    let port = port_bytes(st.small.port);
+    let bulkout = out_bytes(st.small.bulkout);
+    let bulkin = in_bytes(st.small.bulkin);
+    let last = last_bytes(split, remote);
+    copy_in(u, at, &port, 0, 6);
+    copy_in(u, at + 6, &bulkout, 0, 10);
+    copy_in(u, at + 16, &bulkin, 0, 16);
+    copy_in(u, at + 32, &last, 0, 4);
 }
