@@ -1,4 +1,4 @@
-// The parts of a unit but for its two stores, and what is decided over them. Flags are 0 or 1: C shares these structs as they stand.
+// The parts of a unit but for its two stores, and what is decided over them. Flags are bytes, 0 or 1, as C has them in a unit.
 use wire::types::Header;
 
 // Bytes that a store holds.
