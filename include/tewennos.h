@@ -24,26 +24,26 @@ extern "C" {
 #define TMC_FULL_SPEED 64u     /* the packet sizes */
 #define TMC_HIGH_SPEED 512u
 
-/* The numbers that a call is answered with: document 01's table. 6 to 14 halt Bulk-OUT. The others but 0 leave all as it was, but for 3 at
-   power-on, which makes a unit for packets of 64. */
+/* The numbers that a call is answered with: document 01's table. 6 to 14 halt Bulk-OUT. The others but 0 leave all as it was, and write
+   nothing, but for 3 at power-on, which makes a unit for packets of 64. */
 enum tmc_number {
-    TMC_DONE = 0,
-    TMC_UNSOUND = 1,       /* the unit is none that these functions write: overwritten, or never powered on */
-    TMC_UNCONFIGURED = 2,
-    TMC_WRONG_SIZE = 3,    /* of what was lent, or of the packet at power-on */
-    TMC_HALTED = 4,
-    TMC_WAIT = 5,
-    TMC_NOT_IN_FOURS = 6,
-    TMC_SHORT_HEADER = 7,
-    TMC_BAD_TAG = 8,
-    TMC_UNKNOWN_MSGID = 9,
-    TMC_RESERVED = 10,
-    TMC_WRONG_LENGTH = 11,
-    TMC_TOO_LONG = 12,
-    TMC_OUT_OF_TURN = 13,
-    TMC_MISALIGNED = 14,
-    TMC_NO_ROW = 15,       /* a setup packet that the port does not serve, or not in this form, or not yet configured: serve it or stall it */
-    TMC_NOT_NOW = 16
+    TMC_NUMBER_DONE = 0,
+    TMC_NUMBER_UNSOUND = 1, /* the unit is none that these functions write: overwritten, or never powered on */
+    TMC_NUMBER_UNCONFIGURED = 2,
+    TMC_NUMBER_WRONG_SIZE = 3, /* of what was lent, or of the packet at power-on */
+    TMC_NUMBER_HALTED = 4,
+    TMC_NUMBER_WAIT = 5,
+    TMC_NUMBER_NOT_IN_FOURS = 6,
+    TMC_NUMBER_SHORT_HEADER = 7,
+    TMC_NUMBER_BAD_TAG = 8,
+    TMC_NUMBER_UNKNOWN_MSGID = 9,
+    TMC_NUMBER_RESERVED = 10,
+    TMC_NUMBER_WRONG_LENGTH = 11,
+    TMC_NUMBER_TOO_LONG = 12,
+    TMC_NUMBER_OUT_OF_TURN = 13,
+    TMC_NUMBER_MISALIGNED = 14,
+    TMC_NUMBER_NO_ROW = 15, /* a setup packet that the port does not serve, or not in this form or not yet: serve it or stall it */
+    TMC_NUMBER_NOT_NOW = 16
 };
 
 /* The USBTMC status in the first byte of a control answer. */
@@ -67,12 +67,12 @@ struct tmc_answer {
 };
 
 /* How far a Bulk-IN transfer is, the split in progress, and the remote/local state, as the unit has them. */
-enum tmc_phase { TMC_CLOSED = 0, TMC_ASKED = 1, TMC_SENDING = 2, TMC_OWED = 3 };
-enum tmc_split { TMC_NO_SPLIT = 0, TMC_ABORT_OUT = 1, TMC_ABORT_IN = 2, TMC_CLEAR = 3 };
-enum tmc_remote { TMC_LOCS = 0, TMC_REMS = 1, TMC_LWLS = 2, TMC_RWLS = 3 };
+enum tmc_phase { TMC_PHASE_CLOSED = 0, TMC_PHASE_ASKED = 1, TMC_PHASE_SENDING = 2, TMC_PHASE_OWED = 3 };
+enum tmc_split { TMC_SPLIT_NONE = 0, TMC_SPLIT_ABORT_OUT = 1, TMC_SPLIT_ABORT_IN = 2, TMC_SPLIT_CLEAR = 3 };
+enum tmc_remote { TMC_REMOTE_LOCS = 0, TMC_REMOTE_REMS = 1, TMC_REMOTE_LWLS = 2, TMC_REMOTE_RWLS = 3 };
 
 /* The unit, which you may look at while no call is under way, and which no one else writes. Flags are 0 or 1. A number of two bytes has
-   its low byte first, whatever the processor's order is. */
+   its low byte first, whatever the processor's order is. No byte is padding. */
 struct tmc_unit {
     uint8_t message[TMC_STORE];
     uint8_t reply[TMC_STORE];
@@ -81,31 +81,33 @@ struct tmc_unit {
     uint8_t configured;
     uint8_t ren;
     uint8_t status;
-    uint8_t zero;
+    uint8_t remote; /* enum tmc_remote */
 
+    /* Bulk-OUT: the message, and the transfer that brings it. */
     uint16_t out_held; /* data bytes of the message */
-    uint16_t out_left; /* data bytes that are to come: a transfer is open while there are some */
-    uint16_t out_got;  /* data bytes of the open transfer that have come */
-    uint8_t out_end;   /* the open transfer's EOM */
     uint8_t out_ready; /* the message is whole */
     uint8_t out_halted;
+    uint16_t out_left;  /* data bytes that are to come: a transfer is open while there are some */
+    uint16_t out_got;   /* data bytes of the open transfer that have come */
+    uint8_t out_end;    /* the open transfer's EOM */
     uint8_t out_recent; /* the most recent tag */
 
+    /* Bulk-IN: the reply, and the transfer that fetches it. */
     uint16_t in_at; /* where the reply's unsent bytes begin */
     uint16_t in_unsent;
-    uint16_t in_asked; /* by the host's REQUEST, at most 1,024 */
-    uint16_t in_left;  /* data bytes of the transfer that are to go */
-    uint16_t in_sent;  /* and those that went */
+    uint16_t in_asked;  /* by the host's REQUEST, at most 1,024 */
+    uint16_t in_left;   /* data bytes of the transfer that are to go */
+    uint16_t in_sent;   /* and those that went */
+    uint8_t in_phase;   /* enum tmc_phase */
+    uint8_t in_tag;     /* of the open transfer */
     uint8_t in_enabled; /* TermChar, and the byte */
     uint8_t in_term;
-    uint8_t in_phase;
-    uint8_t in_tag; /* of the open transfer */
     uint8_t in_halted;
     uint8_t in_recent; /* the most recent tag */
 
-    uint8_t split;
-    uint8_t remote;
     uint16_t count; /* of an abort: the data bytes of its transfer */
+    uint8_t split;  /* enum tmc_split */
+    uint8_t zero;
 };
 
 /* Power-on, for packets of 64 or 512 bytes. Any other size is answered 3, with a unit for 64. What the unit held does not matter. */
@@ -145,7 +147,7 @@ struct tmc_answer tmc_suspend(struct tmc_unit *unit);
 }
 #endif
 
-/* The library was built for this layout. */
+/* The library was built for this layout; tools/layout holds it to the definitions. */
 #ifdef __cplusplus
 #define TMC_HOLDS(fact) static_assert(fact, #fact)
 #else
@@ -155,16 +157,30 @@ TMC_HOLDS(offsetof(struct tmc_unit, message) == 0);
 TMC_HOLDS(offsetof(struct tmc_unit, reply) == 1024);
 TMC_HOLDS(offsetof(struct tmc_unit, packet) == 2048);
 TMC_HOLDS(offsetof(struct tmc_unit, configured) == 2050);
-TMC_HOLDS(offsetof(struct tmc_unit, zero) == 2053);
+TMC_HOLDS(offsetof(struct tmc_unit, ren) == 2051);
+TMC_HOLDS(offsetof(struct tmc_unit, status) == 2052);
+TMC_HOLDS(offsetof(struct tmc_unit, remote) == 2053);
 TMC_HOLDS(offsetof(struct tmc_unit, out_held) == 2054);
-TMC_HOLDS(offsetof(struct tmc_unit, out_end) == 2060);
+TMC_HOLDS(offsetof(struct tmc_unit, out_ready) == 2056);
+TMC_HOLDS(offsetof(struct tmc_unit, out_halted) == 2057);
+TMC_HOLDS(offsetof(struct tmc_unit, out_left) == 2058);
+TMC_HOLDS(offsetof(struct tmc_unit, out_got) == 2060);
+TMC_HOLDS(offsetof(struct tmc_unit, out_end) == 2062);
 TMC_HOLDS(offsetof(struct tmc_unit, out_recent) == 2063);
 TMC_HOLDS(offsetof(struct tmc_unit, in_at) == 2064);
-TMC_HOLDS(offsetof(struct tmc_unit, in_enabled) == 2074);
+TMC_HOLDS(offsetof(struct tmc_unit, in_unsent) == 2066);
+TMC_HOLDS(offsetof(struct tmc_unit, in_asked) == 2068);
+TMC_HOLDS(offsetof(struct tmc_unit, in_left) == 2070);
+TMC_HOLDS(offsetof(struct tmc_unit, in_sent) == 2072);
+TMC_HOLDS(offsetof(struct tmc_unit, in_phase) == 2074);
+TMC_HOLDS(offsetof(struct tmc_unit, in_tag) == 2075);
+TMC_HOLDS(offsetof(struct tmc_unit, in_enabled) == 2076);
+TMC_HOLDS(offsetof(struct tmc_unit, in_term) == 2077);
+TMC_HOLDS(offsetof(struct tmc_unit, in_halted) == 2078);
 TMC_HOLDS(offsetof(struct tmc_unit, in_recent) == 2079);
-TMC_HOLDS(offsetof(struct tmc_unit, split) == 2080);
-TMC_HOLDS(offsetof(struct tmc_unit, remote) == 2081);
-TMC_HOLDS(offsetof(struct tmc_unit, count) == 2082);
+TMC_HOLDS(offsetof(struct tmc_unit, count) == 2080);
+TMC_HOLDS(offsetof(struct tmc_unit, split) == 2082);
+TMC_HOLDS(offsetof(struct tmc_unit, zero) == 2083);
 TMC_HOLDS(sizeof(struct tmc_unit) == 2084);
 TMC_HOLDS(offsetof(struct tmc_answer, number) == 0);
 TMC_HOLDS(offsetof(struct tmc_answer, tells) == 1);

@@ -1,8 +1,10 @@
 # How a program in C is built over the library and run. Sourced, by scripts that have gone to the root of the repository and have set `me`,
 # the name that they speak under.
 #
+#     at_most_numbers N WORD..    where the words are something else than that many numbers, says `usage`, exit 2; `help` says it too, exit 0
 #     find_tools                  the compiler for x86-64 and, on another processor, the emulator; or says what to install, exit 2
 #     find_library                the library, built where it is not there or is older than crates/; exit 1 where it cannot be
+#     find_kit                    the Rattle toolchain: `kit`, `kit_own` with what is of this machine, `kit_clang`; or says what to install, exit 2
 #     compile PROGRAM FILE..      with warnings as errors, linked with the library; the header stands in include/
 #     try_header                  as C++, where a compiler for it is there
 #     start PROGRAM WORD..        runs it
@@ -28,6 +30,15 @@ need() { # COMMAND PACKAGE
         stop "the command '$1' is missing; install it (on Debian: apt-get install $2) and run this again" 2
 }
 
+at_most_numbers() { # N WORD..
+    local word
+    case "${2:-}" in help | --help | -h) echo "$usage" && exit ;; esac
+    for word in "${@:2}"; do
+        case $word in *[!0-9]* | '') echo "$usage" >&2 && exit 2 ;; esac
+    done
+    if [ $# -gt $(($1 + 1)) ]; then echo "$usage" >&2 && exit 2; fi
+}
+
 find_tools() {
     emulator=()
     if [ "$(uname -m)" = x86_64 ]; then
@@ -42,6 +53,19 @@ find_tools() {
     fi
 }
 
+need_rt() {
+    command -v rt >/dev/null 2>&1 ||
+        stop "the command 'rt' is not on the PATH; install the Rattle toolchain (README.md, \"Try it\") and run this again" 2
+}
+
+find_kit() {
+    need_rt
+    kit=$(dirname "$(dirname "$(rt doc)")")
+    kit_own=$kit/on/$(uname -m)
+    kit_clang=$kit_own/toolchain/bin/clang
+    [ -x "$kit_clang" ] || stop "the Rattle toolchain at $kit has no clang for this machine at $kit_clang: get one that has" 2
+}
+
 # The library is there, and nothing of what it is made from is newer.
 is_current() { [ -f "$library" ] && [ -z "$(find crates crates.txt -newer "$library" -print -quit)" ]; }
 
@@ -52,8 +76,7 @@ find_library() {
         return
     fi
     if is_current; then return; fi
-    command -v rt >/dev/null 2>&1 ||
-        stop "the command 'rt' is not on the PATH; install the Rattle toolchain (README.md, \"Try it\") and run this again" 2
+    need_rt
     echo "$me: proving and building the library, which takes some minutes the first time .." >&2
     mkdir -p target/log
     rt staticlib tewennos >target/log/library.out 2>&1 ||

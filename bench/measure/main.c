@@ -59,7 +59,7 @@ static void measure(const struct measured_case *it, uint16_t size)
         snprintf(name, sizeof name, "%s", it->name);
     pair = unused_pair(name, size);
     call = power_on(size);
-    require_number(name, pair_call(&pair, &call).number, TMC_DONE);
+    require_number(name, pair_call(&pair, &call).number, TMC_NUMBER_DONE);
     call = it->reach(&pair);
     made = pair_call(&pair, &call);
     require_number(name, made.number, it->number);

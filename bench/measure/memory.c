@@ -1,15 +1,27 @@
-/* The memory functions that both sides are linked with, as a small controller has them: a loop over words, then one over bytes. */
+/* The memory functions that both sides are linked with, as a small controller has them: a loop over words, then one over bytes. With VECTORS
+   memcpy begins with a loop over two vectors of 16 bytes, which is what compilers make of a loop that copies. */
 #include <stddef.h>
 #include <stdint.h>
 #include <string.h>
 
 typedef uint64_t word __attribute__((may_alias, aligned(1)));
 
+#ifdef VECTORS
+typedef uint64_t block __attribute__((vector_size(32), may_alias, aligned(1)));
+#endif
+
 static inline void *copy_forwards(void *to, const void *from, size_t length)
 {
     uint8_t *target = to;
     const uint8_t *source = from;
 
+#ifdef VECTORS
+    for (; length >= sizeof(block); length -= sizeof(block)) {
+        *(block *)target = *(const block *)source;
+        target += sizeof(block);
+        source += sizeof(block);
+    }
+#endif
     for (; length >= sizeof(word); length -= sizeof(word)) {
         *(word *)target = *(const word *)source;
         target += sizeof(word);
@@ -70,4 +82,10 @@ int memcmp(const void *left, const void *right, size_t length)
         if (*one != *other)
             return *one - *other;
     return 0;
+}
+
+/* What compilers call where only equality is asked for. */
+int bcmp(const void *left, const void *right, size_t length)
+{
+    return memcmp(left, right, length);
 }

@@ -137,14 +137,14 @@ static void require_same_unit(const struct pair *pair)
     require_equal(pair, "configured", port->configured, plain->configured);
     require_equal(pair, "ren", port->ren, plain->ren);
     require_equal(pair, "status", port->status, plain->status);
-    require_equal(pair, "zero", port->zero, 0);
+    require_equal(pair, "remote", port->remote, plain->remote);
 
     require_equal(pair, "out_held", port->out_held, plain->out_held);
+    require_equal(pair, "out_ready", port->out_ready, plain->out_ready);
+    require_equal(pair, "out_halted", port->out_halted, plain->out_halted);
     require_equal(pair, "out_left", port->out_left, plain->out_left);
     require_equal(pair, "out_got", port->out_got, plain->out_got);
     require_equal(pair, "out_end", port->out_end, plain->out_eom);
-    require_equal(pair, "out_ready", port->out_ready, plain->out_ready);
-    require_equal(pair, "out_halted", port->out_halted, plain->out_halted);
     require_equal(pair, "out_recent", port->out_recent, plain->out_tag);
 
     require_equal(pair, "in_at", port->in_at, plain->reply_at);
@@ -152,16 +152,16 @@ static void require_same_unit(const struct pair *pair)
     require_equal(pair, "in_asked", port->in_asked, plain->in_asked);
     require_equal(pair, "in_left", port->in_left, plain->in_left);
     require_equal(pair, "in_sent", port->in_sent, plain->in_sent);
-    require_equal(pair, "in_enabled", port->in_enabled, plain->in_term_enabled);
-    require_equal(pair, "in_term", port->in_term, plain->in_term);
     require_equal(pair, "in_phase", port->in_phase, plain->in_phase);
     require_equal(pair, "in_tag", port->in_tag, plain->in_tag);
+    require_equal(pair, "in_enabled", port->in_enabled, plain->in_term_enabled);
+    require_equal(pair, "in_term", port->in_term, plain->in_term);
     require_equal(pair, "in_halted", port->in_halted, plain->in_halted);
     require_equal(pair, "in_recent", port->in_recent, plain->in_recent);
 
-    require_equal(pair, "split", port->split, plain->split);
-    require_equal(pair, "remote", port->remote, plain->remote);
     require_equal(pair, "count", port->count, plain->split_count);
+    require_equal(pair, "split", port->split, plain->split);
+    require_equal(pair, "zero", port->zero, 0);
 }
 
 struct made pair_call(struct pair *pair, const struct call *call)

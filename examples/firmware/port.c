@@ -38,9 +38,9 @@ static void start_over(void)
 static enum handshake handshake_of(struct tmc_answer answer)
 {
     switch (answer.number) {
-    case TMC_DONE:
+    case TMC_NUMBER_DONE:
         return HANDSHAKE_ACK;
-    case TMC_WAIT:
+    case TMC_NUMBER_WAIT:
         return HANDSHAKE_NAK;
     default:
         return HANDSHAKE_STALL;
@@ -58,7 +58,7 @@ static void note_what_it_tells(struct tmc_answer answer)
 /* A host waits for its answer: it has asked, and the last byte has not gone. */
 static bool is_reading(void)
 {
-    return port.unit.in_phase == TMC_ASKED || port.unit.in_phase == TMC_SENDING;
+    return port.unit.in_phase == TMC_PHASE_ASKED || port.unit.in_phase == TMC_PHASE_SENDING;
 }
 
 /* Whether a setup packet that was answered 0 is one with which a reply goes. An abort of Bulk-OUT and the end of its halt are none: they
@@ -89,16 +89,16 @@ static void on_setup(void)
     struct tmc_answer answer = tmc_setup(&port.unit, packet, length, bytes, sizeof bytes);
 
     switch (answer.number) {
-    case TMC_DONE:
+    case TMC_NUMBER_DONE:
         if (drops_reply(packet, bytes, was_reading))
             port.generation++;
         note_what_it_tells(answer);
         controller_answer(HANDSHAKE_ACK, bytes, answer.length);
         break;
-    case TMC_NO_ROW: /* not the port's: the device's own requests, and what nobody knows */
+    case TMC_NUMBER_NO_ROW: /* not the port's: the device's own requests, and what nobody knows */
         standard_request(packet);
         break;
-    case TMC_UNSOUND:
+    case TMC_NUMBER_UNSOUND:
         start_over();
         controller_answer(HANDSHAKE_STALL, NULL, 0);
         break;
@@ -114,7 +114,7 @@ static void on_bulk_out(void)
     const uint8_t *packet = controller_packet(&length);
     struct tmc_answer answer = tmc_bulk_out(&port.unit, packet, length);
 
-    if (answer.number == TMC_UNSOUND)
+    if (answer.number == TMC_NUMBER_UNSOUND)
         start_over();
     note_what_it_tells(answer);
     controller_answer(handshake_of(answer), NULL, 0);
@@ -125,21 +125,21 @@ static void on_bulk_in(void)
     uint8_t bytes[CONTROLLER_PACKET];
     struct tmc_answer answer = tmc_bulk_in(&port.unit, bytes, sizeof bytes);
 
-    if (answer.number == TMC_UNSOUND)
+    if (answer.number == TMC_NUMBER_UNSOUND)
         start_over();
     controller_answer(handshake_of(answer), bytes, answer.length);
 }
 
 static void on_reset(void)
 {
-    if (tmc_bus_reset(&port.unit).number == TMC_UNSOUND)
+    if (tmc_bus_reset(&port.unit).number == TMC_NUMBER_UNSOUND)
         tmc_power_on(&port.unit, CONTROLLER_PACKET);
     port.generation++;
 }
 
 static void on_suspend(void)
 {
-    if (tmc_suspend(&port.unit).number == TMC_UNSOUND)
+    if (tmc_suspend(&port.unit).number == TMC_NUMBER_UNSOUND)
         start_over();
 }
 
@@ -177,10 +177,10 @@ size_t port_take(uint8_t *message, size_t room, uint32_t *generation)
 
     controller_mask();
     answer = tmc_take(&port.unit, message, room);
-    if (answer.number == TMC_DONE)
+    if (answer.number == TMC_NUMBER_DONE)
         *generation = port.generation;
     controller_unmask();
-    return answer.number == TMC_DONE ? answer.length : 0;
+    return answer.number == TMC_NUMBER_DONE ? answer.length : 0;
 }
 
 /* With the interrupt masked. What the library does not take stays for later: 16 where the rest of an earlier reply has to go first. */
@@ -188,9 +188,9 @@ static enum port_offer offer(uint32_t generation, const uint8_t *reply, size_t l
 {
     if (generation != port.generation)
         return PORT_STALE;
-    if (port.unit.in_phase != TMC_ASKED)
+    if (port.unit.in_phase != TMC_PHASE_ASKED)
         return PORT_NOT_YET;
-    return tmc_offer(&port.unit, reply, length).number == TMC_DONE ? PORT_OFFERED : PORT_NOT_YET;
+    return tmc_offer(&port.unit, reply, length).number == TMC_NUMBER_DONE ? PORT_OFFERED : PORT_NOT_YET;
 }
 
 enum port_offer port_offer(uint32_t generation, const uint8_t *reply, size_t length)

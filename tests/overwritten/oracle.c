@@ -12,27 +12,27 @@ static void to_plain(struct plain_unit *plain, const struct tmc_unit *unit)
     plain->configured = unit->configured;
     plain->ren = unit->ren;
     plain->status = unit->status;
+    plain->remote = unit->remote;
     plain->out_held = unit->out_held;
+    plain->out_ready = unit->out_ready;
+    plain->out_halted = unit->out_halted;
     plain->out_left = unit->out_left;
     plain->out_got = unit->out_got;
     plain->out_eom = unit->out_end;
-    plain->out_ready = unit->out_ready;
-    plain->out_halted = unit->out_halted;
     plain->out_tag = unit->out_recent;
     plain->reply_at = unit->in_at;
     plain->reply_left = unit->in_unsent;
     plain->in_asked = unit->in_asked;
     plain->in_left = unit->in_left;
     plain->in_sent = unit->in_sent;
-    plain->in_term_enabled = unit->in_enabled;
-    plain->in_term = unit->in_term;
     plain->in_phase = unit->in_phase;
     plain->in_tag = unit->in_tag;
+    plain->in_term_enabled = unit->in_enabled;
+    plain->in_term = unit->in_term;
     plain->in_halted = unit->in_halted;
     plain->in_recent = unit->in_recent;
-    plain->split = unit->split;
-    plain->remote = unit->remote;
     plain->split_count = unit->count;
+    plain->split = unit->split;
 }
 
 static void from_plain(struct tmc_unit *unit, const struct plain_unit *plain)
@@ -43,28 +43,28 @@ static void from_plain(struct tmc_unit *unit, const struct plain_unit *plain)
     unit->configured = plain->configured;
     unit->ren = plain->ren;
     unit->status = plain->status;
-    unit->zero = 0;
+    unit->remote = plain->remote;
     unit->out_held = plain->out_held;
+    unit->out_ready = plain->out_ready;
+    unit->out_halted = plain->out_halted;
     unit->out_left = plain->out_left;
     unit->out_got = plain->out_got;
     unit->out_end = plain->out_eom;
-    unit->out_ready = plain->out_ready;
-    unit->out_halted = plain->out_halted;
     unit->out_recent = plain->out_tag;
     unit->in_at = plain->reply_at;
     unit->in_unsent = plain->reply_left;
     unit->in_asked = plain->in_asked;
     unit->in_left = plain->in_left;
     unit->in_sent = plain->in_sent;
-    unit->in_enabled = plain->in_term_enabled;
-    unit->in_term = plain->in_term;
     unit->in_phase = plain->in_phase;
     unit->in_tag = plain->in_tag;
+    unit->in_enabled = plain->in_term_enabled;
+    unit->in_term = plain->in_term;
     unit->in_halted = plain->in_halted;
     unit->in_recent = plain->in_recent;
-    unit->split = plain->split;
-    unit->remote = plain->remote;
     unit->count = plain->split_count;
+    unit->split = plain->split;
+    unit->zero = 0;
 }
 
 /* The answer of a call that has nothing but a number. */
@@ -102,7 +102,7 @@ static struct plain_answer played(struct plain_unit *plain, const struct call *c
 
 struct tmc_answer expected(struct tmc_unit *unit, const struct call *call, uint8_t *buffer)
 {
-    struct tmc_answer answer = {TMC_UNSOUND, TMC_TELLS_NOTHING, 0};
+    struct tmc_answer answer = {TMC_NUMBER_UNSOUND, TMC_TELLS_NOTHING, 0};
     struct plain_unit plain;
     struct plain_answer given;
 
@@ -114,7 +114,7 @@ struct tmc_answer expected(struct tmc_unit *unit, const struct call *call, uint8
     answer.number = given.number;
     answer.tells = given.tells;
     answer.length = given.length;
-    if (given.number != TMC_UNSOUND)
+    if (given.number != TMC_NUMBER_UNSOUND)
         from_plain(unit, &plain);
     return answer;
 }

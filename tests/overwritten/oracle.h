@@ -2,7 +2,7 @@
 #ifndef ORACLE_H
 #define ORACLE_H
 
-#include "call.h"
+#include "../shared/call.h"
 
 /* Alters unit and buffer as the call is to. */
 struct tmc_answer expected(struct tmc_unit *unit, const struct call *call, uint8_t *buffer);

@@ -1,12 +1,10 @@
 /* Is the answer 1, or the right one, whatever was written over the unit? Live units are reached by traffic, overwritten in many ways, and
    called. Each answer, the unit and the buffer after it are compared with bench/plain.c, and no byte beside what was lent may change. */
-#include "call.h"
-#include "overwrite.h"
+#include "../shared/asked.h"
+#include "../shared/overwrite.h"
 #include "trial.h"
 
 #include <stdio.h>
-#include <stdlib.h>
-#include <string.h>
 
 #define VARIANTS 12       /* of each call, made for a live unit */
 #define UNITS_A_ROUND 8   /* for each packet size */
@@ -72,11 +70,11 @@ static bool shows(const struct tmc_unit *unit, enum mark mark)
     case IN_HALTED:
         return unit->in_halted;
     case IN_ASKED:
-        return unit->in_phase == TMC_ASKED;
+        return unit->in_phase == TMC_PHASE_ASKED;
     case IN_SENDING:
-        return unit->in_phase == TMC_SENDING;
+        return unit->in_phase == TMC_PHASE_SENDING;
     case IN_OWED:
-        return unit->in_phase == TMC_OWED;
+        return unit->in_phase == TMC_PHASE_OWED;
     case REPLY_WHOLE:
         return unit->in_unsent != 0 && unit->in_at == 0;
     case REPLY_IN_PART:
@@ -84,7 +82,7 @@ static bool shows(const struct tmc_unit *unit, enum mark mark)
     case IN_ABORT_OUT:
     case IN_ABORT_IN:
     case IN_CLEAR:
-        return unit->split == (unsigned)(mark - IN_ABORT_OUT) + TMC_ABORT_OUT;
+        return unit->split == (unsigned)(mark - IN_ABORT_OUT) + TMC_SPLIT_ABORT_OUT;
     default:
         return unit->remote == (unsigned)(mark - IN_LOCS);
     }
@@ -133,7 +131,7 @@ static void try_one(struct test *test, const struct tmc_unit *unit, enum kind ki
     struct tmc_answer answer = trial(&test->trials, unit, &test->calls[kind][test->turn++ % VARIANTS], NULL);
 
     test->overwritten++;
-    test->still_sound += answer.number != TMC_UNSOUND;
+    test->still_sound += answer.number != TMC_NUMBER_UNSOUND;
 }
 
 static void try_all(struct test *test, const struct tmc_unit *unit)
@@ -266,23 +264,6 @@ static void play_round(struct test *test, uint16_t packet)
 
 /* The report. */
 
-/* Whether the call can be answered with that number (document 01, "The first that applies decides"). */
-static bool can_come(enum kind kind, unsigned number)
-{
-    static const uint32_t numbers[KINDS] = {
-        1u << 0 | 1u << 3,                                   /* power_on */
-        1u << 0 | 1u << 1 | 1u << 3 | 1u << 15,              /* setup */
-        (1u << 15) - 1,                                      /* bulk_out: 0 to 14 */
-        (1u << 6) - 1,                                       /* bulk_in: 0 to 5 */
-        (1u << 4) - 1 + (1u << 16),                          /* take: 0 to 3, 16 */
-        (1u << 4) - 1 + (1u << 16),                          /* offer */
-        (1u << 3) - 1, (1u << 3) - 1,                        /* set_status, panel: 0 to 2 */
-        (1u << 2) - 1, (1u << 2) - 1                         /* bus_reset, suspend: 0, 1 */
-    };
-
-    return (numbers[kind] >> number & 1u) != 0;
-}
-
 /* Says which numbers came, and whether each that can come did. */
 static bool report_numbers(const struct trials *trials)
 {
@@ -350,32 +331,22 @@ static bool report(const struct test *test)
     return live && numbers;
 }
 
-/* A word that is a number and no more. */
-static bool read_number(const char *word, unsigned long *number)
-{
-    char *end;
-
-    *number = strtoul(word, &end, 10);
-    return word[0] >= '0' && word[0] <= '9' && *end == '\0';
-}
-
 int main(int count, char **words)
 {
     static struct test test;
-    unsigned long seed = 1, rounds = 25, round;
+    struct asked asked = {1, 25};
+    unsigned long round;
 
-    if (count > 3 || (count > 1 && !read_number(words[1], &seed)) || (count > 2 && !read_number(words[2], &rounds))) {
+    if (!read_asked(count, words, &asked)) {
         fprintf(stderr, "usage: overwritten [SEED [ROUNDS]]\n");
         return 2;
     }
-    test.chance.state = (uint64_t)seed * UINT64_C(0x9E3779B97F4A7C15) + 1;
-    if (test.chance.state == 0)
-        test.chance.state = 1;
+    test.chance = chance_from(asked.seed);
     trials_start(&test.trials);
-    for (round = 0; round < rounds; round++) {
+    for (round = 0; round < asked.rounds; round++) {
         play_round(&test, TMC_FULL_SPEED);
         play_round(&test, TMC_HIGH_SPEED);
     }
-    printf("seed %lu, %lu rounds\n", seed, rounds);
+    printf("seed %lu, %lu rounds\n", asked.seed, asked.rounds);
     return report(&test) ? 0 : 1;
 }

@@ -1,5 +1,6 @@
 #include "trial.h"
 
+#include "../shared/show.h"
 #include "oracle.h"
 
 #include <stdio.h>
@@ -53,73 +54,7 @@ static bool beside_is_whole(const struct lent *lent)
     return memcmp(lent->bytes - BESIDE, watched, BESIDE) == 0 && memcmp(lent->bytes + lent->length, watched, BESIDE) == 0;
 }
 
-static struct tmc_answer called(struct tmc_unit *unit, const struct call *call)
-{
-    switch (call->kind) {
-    case POWER_ON:
-        return tmc_power_on(unit, call->value);
-    case SETUP:
-        return tmc_setup(unit, lent_input.bytes, call->length, lent_buffer.bytes, call->room);
-    case BULK_OUT:
-        return tmc_bulk_out(unit, lent_input.bytes, call->length);
-    case BULK_IN:
-        return tmc_bulk_in(unit, lent_buffer.bytes, call->room);
-    case TAKE:
-        return tmc_take(unit, lent_buffer.bytes, call->room);
-    case OFFER:
-        return tmc_offer(unit, lent_input.bytes, call->length);
-    case SET_STATUS:
-        return tmc_set_status(unit, (uint8_t)call->value);
-    case PANEL:
-        return tmc_panel(unit);
-    case BUS_RESET:
-        return tmc_bus_reset(unit);
-    default:
-        return tmc_suspend(unit);
-    }
-}
-
 /* What is shown of a difference. */
-
-static void show_bytes(const char *name, const uint8_t *bytes, size_t length)
-{
-    size_t i;
-
-    printf("  %s (%zu)", name, length);
-    for (i = 0; i < length && i < 80; i++)
-        printf(" %02x", bytes[i]);
-    printf(i < length ? " ..\n" : "\n");
-}
-
-static void show_unit(const char *name, const struct tmc_unit *unit)
-{
-    printf("  %s packet=%u configured=%u ren=%u status=%02x zero=%u\n", name, unit->packet, unit->configured, unit->ren, unit->status,
-           unit->zero);
-    printf("    out: held=%u left=%u got=%u end=%u ready=%u halted=%u recent=%u\n", unit->out_held, unit->out_left, unit->out_got,
-           unit->out_end, unit->out_ready, unit->out_halted, unit->out_recent);
-    printf("    in: at=%u unsent=%u asked=%u left=%u sent=%u enabled=%u term=%u phase=%u tag=%u halted=%u recent=%u\n", unit->in_at,
-           unit->in_unsent, unit->in_asked, unit->in_left, unit->in_sent, unit->in_enabled, unit->in_term, unit->in_phase, unit->in_tag,
-           unit->in_halted, unit->in_recent);
-    printf("    split=%u remote=%u count=%u\n", unit->split, unit->remote, unit->count);
-}
-
-static void show_answer(const char *name, struct tmc_answer answer)
-{
-    printf("  %s: %u, tells %u, length %zu\n", name, answer.number, answer.tells, answer.length);
-}
-
-/* Says where two stretches of bytes differ. */
-static void show_difference(const char *name, const uint8_t *is, const uint8_t *to_be, size_t length)
-{
-    size_t i;
-
-    for (i = 0; i < length; i++) {
-        if (is[i] != to_be[i]) {
-            printf("  %s: byte %zu is %02x, and is to be %02x\n", name, i, is[i], to_be[i]);
-            return;
-        }
-    }
-}
 
 static void show_beside(const char *name, const struct lent *lent)
 {
@@ -179,7 +114,7 @@ struct tmc_answer trial(struct trials *trials, const struct tmc_unit *before, co
     memset(right.buffer, ~beside & 0xFF, call->room);
     right.answer = expected(&right.unit, call, right.buffer);
 
-    answer = called((struct tmc_unit *)(void *)lent_unit.bytes, call);
+    answer = perform((struct tmc_unit *)(void *)lent_unit.bytes, call, lent_input.bytes, lent_buffer.bytes);
     if (!is_right(call, &right, answer)) {
         show(before, call, &right, answer);
         exit(1);

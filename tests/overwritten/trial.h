@@ -2,9 +2,7 @@
 #ifndef TRIAL_H
 #define TRIAL_H
 
-#include "call.h"
-
-#define NUMBERS 17 /* 0 to 16 */
+#include "../shared/call.h"
 
 struct trials {
     uint64_t answered[KINDS][NUMBERS];

@@ -2,6 +2,7 @@
 use rules::DONE;
 use rules::TELLS_PULSE;
 use rules::TELLS_TRIGGER;
+use rules::verdict::Verdict;
 use words::text::put;
 use words::text::put_byte;
 use words::text::put_decimal;
@@ -20,14 +21,14 @@ fn put_tells(out: &mut [u8], at: usize, tells: u8) -> usize {
     at
 }
 
-fn put_number(out: &mut [u8], at: usize, number: u8, tells: u8) -> usize {
-    let next = put_decimal(out, at, number as u16);
-    put_tells(out, next, tells)
+fn put_verdict(out: &mut [u8], at: usize, verdict: Verdict) -> usize {
+    let next = put_decimal(out, at, verdict.number as u16);
+    put_tells(out, next, verdict.tells)
 }
 
 // The answer to a call that is lent no buffer.
-pub fn put_done(out: &mut [u8], at: usize, number: u8, tells: u8) -> usize {
-    let next = put_number(out, at, number, tells);
+pub fn put_done(out: &mut [u8], at: usize, verdict: Verdict) -> usize {
+    let next = put_verdict(out, at, verdict);
     put_byte(out, next, b'\n')
 }
 
@@ -52,16 +53,9 @@ fn put_end(out: &mut [u8], at: usize, rest: &[u8]) -> usize {
 }
 
 // The answer to a call that was lent a buffer, of which it wrote `len` bytes if it is answered 0.
-pub fn put_told(
-    out: &mut [u8],
-    at: usize,
-    number: u8,
-    tells: u8,
-    len: usize,
-    buffer: &[u8],
-) -> usize {
-    let next = put_number(out, at, number, tells);
-    if number != DONE {
+pub fn put_told(out: &mut [u8], at: usize, verdict: Verdict, len: usize, buffer: &[u8]) -> usize {
+    let next = put_verdict(out, at, verdict);
+    if verdict.number != DONE {
         return put_end(out, next, buffer);
     }
     let mark = put_byte(out, next, b' ');

@@ -46,15 +46,16 @@ fn put_halted(out: &mut [u8], at: usize, halted: u8) -> usize {
 
 // The message that Bulk-OUT brings: whole, a part of one, or none.
 fn put_message(out: &mut [u8], at: usize, bulkout: BulkOut) -> usize {
-    if bulkout.ready == 1 {
+    let held = bulkout.message.held;
+    if bulkout.message.ready == 1 {
         let next = put(out, at, b" message=ready:");
-        return put_decimal(out, next, bulkout.held);
+        return put_decimal(out, next, held);
     }
-    if bulkout.held != 0 {
+    if held != 0 {
         let next = put(out, at, b" message=part:");
-        return put_decimal(out, next, bulkout.held);
+        return put_decimal(out, next, held);
     }
-    if bulkout.left != 0 {
+    if bulkout.transfer.left != 0 {
         return put(out, at, b" message=part:0");
     }
     put(out, at, b" message=none")
@@ -87,10 +88,10 @@ fn put_tags(out: &mut [u8], at: usize, bulkout: BulkOut, bulkin: BulkIn) -> usiz
 // The reply that Bulk-IN sends, and the split in progress.
 fn put_reply(out: &mut [u8], at: usize, bulkin: BulkIn, split: Split) -> usize {
     let at = put(out, at, b" reply=");
-    let at = put_decimal(out, at, bulkin.unsent);
+    let at = put_decimal(out, at, bulkin.reply.unsent);
     let at = put_split(out, at, split);
     let at = put(out, at, b" owed=");
-    put_flag(out, at, bulkin.phase == OWED)
+    put_flag(out, at, bulkin.transfer.phase == OWED)
 }
 
 pub fn put_overview(

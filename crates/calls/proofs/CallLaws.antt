@@ -1,39 +1,45 @@
--- What the thermostat's status byte and panel and the bus's calls come to, a law for each way that their code takes.
+-- What the thermostat's calls come to, soundness asked first: a law for each way that their code takes.
 -- Assumes nothing.
 use Prim.Native.Nat.{ℕ}
-use mathlib.Core.Path.{_≡_}
+use mathlib.Core.Path.{_≡_, refl, sym, _∙_}
+use mathlib.Core.Bool.{Bool, true, false}
 use mathlib.Core.List.{[]}
-use Rattle.rules.specs.Choice.{first}
+use native.Mathlib.Omega.{arith}
+use Rattle.rules.specs.Choice.{pick, first, decide}
+use Rattle.rules.specs.Answers.{UNSOUND}
 use Rattle.rules.proofs.Choice.{refuses, passes}
-use Rattle.port.specs.Parts.{withPort, withRemote, withStatus}
-use Rattle.port.specs.Remote.{byPanel, localNow}
-use Rattle.port.specs.In.{says, refuse}
-use Rattle.port.specs.Calls.{thermostatRules, statusSet, returned, busRules, suspended}
+use Rattle.port.specs.Parts.{portOf, withPort, withRemote, withStatus}
+use Rattle.port.specs.Remote.{byPanel}
+use Rattle.port.specs.Sound.{sound}
+use Rattle.port.specs.Answer.{Said, says, refuse}
+use Rattle.port.specs.Calls.{thermostatRules, statusSet, returned}
 use Rattle.port.specs.declared.types.State.{State}
 
-module _ (st : State) (n : ℕ) where
-  module _ (gate : n ≡ first (thermostatRules st) 0) where
-    pub status-refused : (status : ℕ) → (n ≡ 0 → ⊥) → refuse st n ≡ statusSet st status
-    unfolding statusSet
-    status-refused status e = refuses (refuse st) (thermostatRules st) _ n tt gate e
+module _ (st : State) (said : Said) (n : ℕ) where
+  -- the number of the gate, whether the unit is sound or not
+  gate-refused : (t : Bool) → n ≡ pick t (first (thermostatRules st) 0) UNSOUND → (n ≡ 0 → ⊥) → refuse st n ≡ pick t (decide (refuse st) (thermostatRules st) said) (refuse st UNSOUND)
+  unfolding pick
+  gate-refused true e z = refuses (refuse st) (thermostatRules st) said n tt e z
+  gate-refused false e z = rw e
 
-    pub status-done : (status : ℕ) → n ≡ 0 → says (withPort st (withStatus (st .small .port) status)) [] ≡ statusSet st status
-    unfolding statusSet
-    status-done status e = passes (refuse st) (thermostatRules st) _ n tt gate e
+  gate-passed : (t : Bool) → n ≡ pick t (first (thermostatRules st) 0) UNSOUND → n ≡ 0 → said ≡ pick t (decide (refuse st) (thermostatRules st) said) (refuse st UNSOUND)
+  unfolding pick
+  gate-passed true e z = passes (refuse st) (thermostatRules st) said n tt e z
+  gate-passed false e z = absurd (omega arith)
 
-    pub return-refused : (n ≡ 0 → ⊥) → refuse st n ≡ returned st
-    unfolding returned
-    return-refused e = refuses (refuse st) (thermostatRules st) _ n tt gate e
+module _ (st : State) (n : ℕ) (gate : n ≡ pick (sound st) (first (thermostatRules st) 0) UNSOUND) where
+  pub status-refused : (status : ℕ) → (n ≡ 0 → ⊥) → refuse st n ≡ pick (sound st) (statusSet st status) (refuse st UNSOUND)
+  unfolding statusSet
+  status-refused status = gate-refused st _ n (sound st) gate
 
-    pub return-done : n ≡ 0 → says (withRemote st (byPanel (st .remote))) [] ≡ returned st
-    unfolding returned
-    return-done e = passes (refuse st) (thermostatRules st) _ n tt gate e
+  pub status-done : (status : ℕ) → n ≡ 0 → says (withPort st (withStatus (portOf st) status)) [] ≡ pick (sound st) (statusSet st status) (refuse st UNSOUND)
+  unfolding statusSet
+  status-done status = gate-passed st _ n (sound st) gate
 
-  module _ (gate : n ≡ first (busRules st) 0) where
-    pub suspend-refused : (n ≡ 0 → ⊥) → refuse st n ≡ suspended st
-    unfolding suspended
-    suspend-refused e = refuses (refuse st) (busRules st) _ n tt gate e
+  pub return-refused : (n ≡ 0 → ⊥) → refuse st n ≡ pick (sound st) (returned st) (refuse st UNSOUND)
+  unfolding returned
+  return-refused = gate-refused st _ n (sound st) gate
 
-    pub suspend-done : n ≡ 0 → says (localNow st) [] ≡ suspended st
-    unfolding suspended
-    suspend-done e = passes (refuse st) (busRules st) _ n tt gate e
+  pub return-done : n ≡ 0 → says (withRemote st (byPanel (st .remote))) [] ≡ pick (sound st) (returned st) (refuse st UNSOUND)
+  unfolding returned
+  return-done = gate-passed st _ n (sound st) gate

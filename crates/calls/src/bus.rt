@@ -1,4 +1,4 @@
-// The bus's calls: the one rule of both, and suspend.
+// Suspend.
 use port::types::Given;
 use port::types::State;
 use remote::remote::local_now;
@@ -7,27 +7,19 @@ use rules::UNSOUND;
 use soundness::sound::sound;
 use state::given::given;
 ghost use mathlib.Core.Path.{_≡_};
+ghost use mathlib.Core.List.{[]};
 ghost use Prim.Native.Nat.{ℕ};
-ghost use Rattle.rules.specs.Choice.{first};
-ghost use Rattle.port.specs.Calls.{busRules, suspended};
+ghost use Rattle.rules.specs.Choice.{pick};
+ghost use Rattle.port.specs.Sound.{sound};
+ghost use Rattle.port.specs.Remote.{localNow};
+ghost use Rattle.port.specs.Answer.{says, refuse};
 ghost use Rattle.port.specs.Given.{givenOf};
 
-// 1 for an unsound state, or 0.
-pub fn bus_gate(st: State) -> u8
-    ensures { λ r. ⌜ r ≡ first (busRules st) 0 ⌝ }
+pub fn suspended(st: State) -> Given
+    ensures { λ r. ⌜ r ≡ givenOf (pick (sound st) (says (localNow st) []) (refuse st 1)) ⌝ }
 {
     if sound(st) {
-        return DONE;
+        return given(local_now(st), DONE);
     }
-    UNSOUND
-}
-
-pub fn suspended(st: State) -> Given
-    ensures { λ r. ⌜ r ≡ givenOf (suspended st) ⌝ }
-{
-    let number = bus_gate(st);
-    if number != 0 {
-        return given(st, number);
-    }
-    given(local_now(st), DONE)
+    given(st, UNSOUND)
 }

@@ -12,27 +12,36 @@ use state::parts::with_remote;
 use state::parts::with_status;
 ghost use mathlib.Core.Path.{_≡_};
 ghost use Prim.Native.Nat.{ℕ};
-ghost use Rattle.rules.specs.Choice.{first};
+ghost use Rattle.rules.specs.Choice.{pick, first};
+ghost use Rattle.port.specs.Sound.{sound};
+ghost use Rattle.port.specs.Answer.{refuse};
 ghost use Rattle.port.specs.Calls.{thermostatRules, statusSet, returned};
 ghost use Rattle.port.specs.Given.{givenOf};
 
-// The first of 1 and 2 that applies, or 0.
-fn thermostat_gate(st: State) -> u8
+// 2 for a state that is not configured, or 0.
+pub fn thermostat_gate(st: State) -> u8
     ensures { λ r. ⌜ r ≡ first (thermostatRules st) 0 ⌝ }
 {
+    if st.small.port.configured != 1 {
+        return UNCONFIGURED;
+    }
+    DONE
+}
+
+// The first of 1 and 2 that applies, or 0.
+fn sound_gate(st: State) -> u8
+    ensures { λ r. ⌜ r ≡ pick (sound st) (first (thermostatRules st) 0) 1 ⌝ }
+{
     if sound(st) {
-        if st.small.port.configured != 1 {
-            return UNCONFIGURED;
-        }
-        return DONE;
+        return thermostat_gate(st);
     }
     UNSOUND
 }
 
 pub fn status_set(st: State, status: u8) -> Given
-    ensures { λ r. ⌜ r ≡ givenOf (statusSet st status) ⌝ }
+    ensures { λ r. ⌜ r ≡ givenOf (pick (sound st) (statusSet st status) (refuse st 1)) ⌝ }
 {
-    let number = thermostat_gate(st);
+    let number = sound_gate(st);
     if number != 0 {
         return given(st, number);
     }
@@ -42,9 +51,9 @@ pub fn status_set(st: State, status: u8) -> Given
 
 // Local control, asked for at the front panel.
 pub fn returned(st: State) -> Given
-    ensures { λ r. ⌜ r ≡ givenOf (returned st) ⌝ }
+    ensures { λ r. ⌜ r ≡ givenOf (pick (sound st) (returned st) (refuse st 1)) ⌝ }
 {
-    let number = thermostat_gate(st);
+    let number = sound_gate(st);
     if number != 0 {
         return given(st, number);
     }

@@ -8,21 +8,22 @@ use native.Mathlib.Omega.{arith}
 use lib.ListN.{length, length-append, length-take}
 use borrow.Author.Tests.{eq-eqb, ne-eqb, le-ltb}
 use Rattle.rules.specs.Choice.{_=ᵇ_}
-use Rattle.rules.specs.Answers.{DONE, TELLS-NOTHING}
+use Rattle.rules.specs.Answers.{done}
 use Rattle.rules.proofs.Choice.{NoneOf, decide-none, at-true, at-false, no-false, ne-neb, eq-neb}
 use Rattle.wire.specs.declared.types.Header.the-variants.{Message}
 use Rattle.port.specs.Parts.{STORE, isSize, isOpenOut, packetSize, outOf, isConfigured}
-use Rattle.port.specs.Out.{moreRules, more, headerRules, headerSays, outRules, outcome, absorbed, opened, accepted, planned, outPlan}
-use Rattle.port.specs.In.{Said, refuse}
+use Rattle.port.specs.Out.{moreRules, more, headerRules, headerSays, outRules, outcome, opened, accepted, planned, outPlan}
+use Rattle.port.specs.Answer.{Said, refuse}
 use Rattle.port.specs.Device.{Device, Result, isSound, heldOf}
 use Rattle.port.specs.Calls.{carriedOut, bulkOut, takeRules, taking, take-message}
-use Rattle.port.specs.Step.{out-packet, take-into, step}
+use Rattle.port.specs.Step.{out-packet, take-into, soundly, step}
 use Rattle.port.specs.Laws.{Stored}
 use Rattle.port.specs.declared.types.State.{State}
 use Rattle.port.specs.declared.types.Outcome.{Outcome}
 use Rattle.port.specs.declared.types.Outcome.the-variants.{Keep, Halt, Data, Accept}
 use Rattle.port.proofs.Soundness.{sound-of}
 use Rattle.port.proofs.KeepsOut.{out-held}
+use Rattle.port.proofs.Calls.{step-sound}
 use Rattle.claims.specs.Command.{Piece, command, Good, cutUp, sending}
 use Rattle.claims.proofs.Between.{face}
 use Rattle.claims.proofs.Cuts.{body, body-long, packet, count, packet-fours, packet-most, right-length, clean}
@@ -41,32 +42,32 @@ module _ (u : Device) (total : List ℕ) (h : isSound u ≡ true) (stored : Stor
   size : isSize P ≡ true
   size = sound-of st h .port .size
 
-  held-fits : outOf st .held ≤ length (u .message)
+  held-fits : outOf st .message .held ≤ length (u .message)
   held-fits = let e = out-held st (sound-of st h) in let l = stored .message in omega arith
 
   -- there is room for all that is to come
-  room-for : (d rest : List ℕ) → heldOf u ++ (d ++ rest) ≡ total → outOf st .held + length d ≤ STORE
+  room-for : (d rest : List ℕ) → heldOf u ++ (d ++ rest) ≡ total → outOf st .message .held + length d ≤ STORE
   room-for d rest e =
       let a = ap length e in
       let b = length-append (heldOf u) (d ++ rest) in
       let c = length-append d rest in
-      let k = length-take (outOf st .held) (u .message) in
+      let k = length-take (outOf st .message .held) (u .message) in
       let l = held-fits in
       omega arith
 
-  -- none of 1 to 5 applies
-  passes : (n : ℕ) → outOf st .halted ≡ 0 → isConfigured st ≡ true → outOf st .ready ≡ 0 → n ≤ P → NoneOf (outRules st n)
+  -- none of 2 to 5 applies
+  passes : (n : ℕ) → outOf st .halted ≡ 0 → isConfigured st ≡ true → outOf st .message .ready ≡ 0 → n ≤ P → NoneOf (outRules st n)
   passes n running configured unready most =
-      (no-false _ h, (no-false _ configured, (le-ltb P n most, (ne-eqb (outOf st .halted) 1 (λ e. omega arith), (ne-eqb (outOf st .ready) 1 (λ e. omega arith), tt)))))
+      (no-false _ configured, (le-ltb P n most, (ne-eqb (outOf st .halted) 1 (λ e. omega arith), (ne-eqb (outOf st .message .ready) 1 (λ e. omega arith), tt))))
 
   -- what a packet comes to decides the call
   step-is : (s : List ℕ) (x : Outcome) → outcome st s ≡ x → step u (out-packet s) ≡ carriedOut u s (planned st x)
-  unfolding step bulkOut outPlan
-  step-is s x e = ap (λ (y : Outcome). carriedOut u s (planned st y)) e
+  unfolding soundly bulkOut outPlan
+  step-is s x e = step-sound u (out-packet s) h ∙ ap (λ (y : Outcome). carriedOut u s (planned st y)) e
 
   -- the packet is answered 0, and the command is further
   abbrev Onward : List (List ℕ) → Result → Type 0
-  Onward later r = (r .answer .number ≡ 0) × Far total later (face (r .unit))
+  Onward later r = (r .answer .verdict .number ≡ 0) × Far total later (face (r .unit))
 
   -- the first of the packets to come, in the middle of a transfer and before one
 
@@ -82,7 +83,7 @@ module _ (u : Device) (total : List ℕ) (h : isSound u ≡ true) (stored : Stor
 
   module _ (running : outOf st .halted ≡ 0) (configured : isConfigured st ≡ true) where
     -- ** a continuing packet
-    module _ (d : List ℕ) (some : 1 ≤ length d) (left : outOf st .left ≡ length d) (unready : outOf st .ready ≡ 0) where
+    module _ (d : List ℕ) (some : 1 ≤ length d) (left : outOf st .transfer .left ≡ length d) (unready : outOf st .message .ready ≡ 0) where
       abbrev data-packet : List ℕ
       data-packet = packet P [] d size (omega arith) refl some
 
@@ -93,7 +94,7 @@ module _ (u : Device) (total : List ℕ) (h : isSound u ≡ true) (stored : Stor
       unfolding outcome more
       data-outcome =
           decide-none Keep (outRules st (length data-packet)) _ (passes _ running configured unready (packet-most P [] d size (omega arith) refl some))
-          ∙ at-true (isOpenOut (outOf st)) _ _ (ne-neb (outOf st .left) 0 (λ e. omega arith))
+          ∙ at-true (isOpenOut (outOf st)) _ _ (ne-neb (outOf st .transfer .left) 0 (λ e. omega arith))
           ∙ ap (λ (k : ℕ). more P k data-packet) left
           ∙ decide-none Halt (moreRules P (length d) data-packet) _ (
             eq-neb _ _ (packet-fours P [] d size (omega arith) refl some),
@@ -102,21 +103,17 @@ module _ (u : Device) (total : List ℕ) (h : isSound u ≡ true) (stored : Stor
           ∙ ap Data (omega arith)
 
     within-onward : (s : List ℕ) (later : List (List ℕ)) (ps : List Piece) (d : List ℕ) (most : ℕ) → Within total (s ∷ later) (face u) ps d most → Onward later (step u (out-packet s))
-    unfolding planned absorbed
+    unfolding planned
     within-onward s later ps d most w =
         let x = data-next (s ∷ later) ps d most w in
         subst (λ (t : List ℕ). Onward later (step u (out-packet t))) (sym (head-eq-of-cons-eq (x .is)))
         (subst (Onward later) (sym (step-is _ _ (data-outcome d (w .some) (w .left) (w .ready)))) (
           refl,
-          record {
-            running = running;
-            configured = configured;
-            ahead = lands P [] d size (omega arith) refl (w .some) ps (face u) (outOf st) total later (x .left) (w .good) held-fits (w .left) (w .end) (w .bytes) (x .enough) (tail-eq-of-cons-eq (x .is));
-          },
+          lands P [] d size (omega arith) refl (w .some) ps (face u) (outOf st) total later (x .left) (w .good) held-fits (w .left) (w .end) (w .bytes) (x .enough) (tail-eq-of-cons-eq (x .is)) running configured,
         ))
 
     -- ** a header packet
-    module _ (ps : List Piece) (p : Piece) (good : Good (p ∷ ps)) (fits : outOf st .held + length (p .bytes) ≤ STORE) (closed : outOf st .left ≡ 0) (unready : outOf st .ready ≡ 0) where
+    module _ (ps : List Piece) (p : Piece) (good : Good (p ∷ ps)) (fits : outOf st .message .held + length (p .bytes) ≤ STORE) (closed : outOf st .transfer .left ≡ 0) (unready : outOf st .message .ready ≡ 0) where
       abbrev first : List ℕ
       first = head (p .tag) (length (p .bytes)) (mark ps)
 
@@ -141,13 +138,13 @@ module _ (u : Device) (total : List ℕ) (h : isSound u ≡ true) (stored : Stor
           ∙ decide-none Halt (headerRules st head-packet (Message (p .tag) (length (p .bytes)) (mark ps))) _ (
             refl,
             (
-              le-ltb STORE (outOf st .held + length (p .bytes)) fits,
+              le-ltb STORE (outOf st .message .held + length (p .bytes)) fits,
               (right-length P first (p .bytes) size (omega arith) refl (good .2), (no-false _ (clean P first (p .bytes) size (omega arith) refl (good .2)), tt)),
             ),
           )
 
     between-onward : (s : List ℕ) (later : List (List ℕ)) (ps : List Piece) (p : Piece) → Between total (s ∷ later) (face u) (p ∷ ps) → Onward later (step u (out-packet s))
-    unfolding planned accepted absorbed
+    unfolding planned accepted
     between-onward s later ps p w =
         let first = head (p .tag) (length (p .bytes)) (mark ps) in
         let good = w .good in
@@ -155,11 +152,7 @@ module _ (u : Device) (total : List ℕ) (h : isSound u ≡ true) (stored : Stor
         subst (λ (t : List ℕ). Onward later (step u (out-packet t))) (sym (head-eq-of-cons-eq (x .is)))
         (subst (Onward later) (sym (step-is _ _ (head-outcome ps p good (room-for (p .bytes) (command ps) (w .bytes)) (w .closed) (w .ready)))) (
           refl,
-          record {
-            running = running;
-            configured = configured;
-            ahead = lands P first (p .bytes) size (omega arith) refl (good .2) ps (face u) (opened (outOf st) (p .tag) (length (p .bytes)) (mark ps)) total later (x .left) (good .3) held-fits refl refl (w .bytes) (x .enough) (tail-eq-of-cons-eq (x .is));
-          },
+          lands P first (p .bytes) size (omega arith) refl (good .2) ps (face u) (opened (outOf st) (p .tag) (length (p .bytes)) (mark ps)) total later (x .left) (good .3) held-fits refl refl (w .bytes) (x .enough) (tail-eq-of-cons-eq (x .is)) running configured,
         ))
 
   -- any packet of it
@@ -176,7 +169,7 @@ module _ (u : Device) (total : List ℕ) (h : isSound u ≡ true) (stored : Stor
 
   pub record Whole : Type 0 where
     pub configured : isConfigured st ≡ true
-    pub ready : outOf st .ready ≡ 1
+    pub ready : outOf st .message .ready ≡ 1
     pub held : heldOf u ≡ total
 
   pub complete : Far total [] (face u) → Whole
@@ -187,10 +180,11 @@ module _ (u : Device) (total : List ℕ) (h : isSound u ≡ true) (stored : Stor
       by (between (p ∷ ps) b) = absurd (nil≢cons (head-next [] ps p b .is))
       by (within ps d most w) = absurd (nil≢cons (data-next [] ps d most w .is))
 
-  pub taken : (room : ℕ) → length total ≤ room → Whole → step u (take-into room) .answer ≡ record { number = DONE; bytes = total; tells = TELLS-NOTHING }
-  unfolding step take-message taking
+  pub taken : (room : ℕ) → length total ≤ room → Whole → step u (take-into room) .answer ≡ record { verdict = done; bytes = total }
+  unfolding soundly take-message taking
   taken room fits w =
-      let held : outOf st .held ≤ room = let a = ap length (w .held) in let k = length-take (outOf st .held) (u .message) in let l = held-fits in omega arith in
-      ap (λ (r : Said). r .answer)
-      (decide-none (refuse st) (takeRules st room) _ (no-false _ h, (no-false _ (w .configured), (no-false _ (eq-eqb (outOf st .ready) 1 (w .ready)), (le-ltb room (outOf st .held) held, tt)))))
-      ∙ ap (λ (l : List ℕ). record { number = DONE; bytes = l; tells = TELLS-NOTHING }) (w .held)
+      let held : outOf st .message .held ≤ room = let a = ap length (w .held) in let k = length-take (outOf st .message .held) (u .message) in let l = held-fits in omega arith in
+      ap (λ (r : Result). r .answer) (step-sound u (take-into room) h)
+      ∙ ap (λ (r : Said). r .answer)
+      (decide-none (refuse st) (takeRules st room) _ (no-false _ (w .configured), (no-false _ (eq-eqb (outOf st .message .ready) 1 (w .ready)), (le-ltb room (outOf st .message .held) held, tt))))
+      ∙ ap (λ (l : List ℕ). record { verdict = done; bytes = l }) (w .held)

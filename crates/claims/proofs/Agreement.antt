@@ -10,13 +10,13 @@ use native.Mathlib.Omega.{arith}
 use lib.ListN.{length, take, drop, length-take, take-append-drop}
 use lib.Seq.{paste, take-paste, take-all}
 use borrow.Author.Tests.{eqb-true, eqb-false, leb-true, leb-false, eq-eqb, ne-eqb}
-use Rattle.rules.specs.Choice.{_=ᵇ_, _≤ᵇ_, _and_, pick}
-use Rattle.rules.proofs.Choice.{pick-all, pick-both, at-true, at-false, neb-ne, neb-eq, not-both}
-use Rattle.wire.specs.Header.{OFF}
-use Rattle.port.specs.Parts.{STORE, on, isOpenOut, unfinished, outOf, emptyOut, broken}
-use Rattle.port.specs.Out.{absorbed}
+use Rattle.rules.specs.Choice.{_=ᵇ_, _≤ᵇ_, pick}
+use Rattle.rules.proofs.Choice.{pick-all, pick-both, neb-ne, neb-eq, not-both}
+use Rattle.port.specs.Parts.{STORE, on, isOpenOut, unfinished, outOf, noMessage, emptyOut, broken}
+use Rattle.port.specs.Out.{completed, continued, absorbed}
 use Rattle.port.specs.Device.{Device, heldOf}
 use Rattle.port.specs.Calls.{released}
+use Rattle.port.specs.declared.types.OutMessage.{OutMessage}
 use Rattle.port.specs.declared.types.BulkOut.{BulkOut}
 use Rattle.port.proofs.Soundness.{OutSound}
 use Rattle.port.proofs.KeepsOut.{cases}
@@ -33,9 +33,9 @@ come free = []
 come (under-way n bytes end) = bytes
 
 pub record Agree (o : BulkOut) (m : List ℕ) (h : History) : Type 0 where
-  pub ready : on (o .ready) ≡ h .ended
-  pub line : Match (o .left) (on (o .end)) (h .line)
-  pub bytes : take (o .held) m ≡ joined (h .transfers) ++ come (h .line)
+  pub ready : on (o .message .ready) ≡ h .ended
+  pub line : Match (o .transfer .left) (on (o .transfer .end)) (h .line)
+  pub bytes : take (o .message .held) m ≡ joined (h .transfers) ++ come (h .line)
 
 -- what is heard is allowed, and agrees with the unit after it
 abbrev pub After : History → Heard → BulkOut → List ℕ → Type 0
@@ -57,10 +57,10 @@ open-line left end free s k e = absurd (e k)
 open-line left end (under-way n bytes x) s k e = rw (k .0, k .1)
 
 -- nothing is under way where a message is ready
-idle-line : (o : BulkOut) (line : Line) → OutSound o → Match (o .left) (on (o .end)) line → on (o .ready) ≡ true → come line ≡ []
+idle-line : (o : BulkOut) (line : Line) → OutSound o → Match (o .transfer .left) (on (o .transfer .end)) line → on (o .message .ready) ≡ true → come line ≡ []
 idle-line o free s k e = refl
 idle-line o (under-way n bytes x) s k e =
-    absurd (⊎-elim (λ w. let z = w .1 .unready in let r = eqb-true (o .ready) 1 e in omega arith) (λ w. k .2 (sym (k .0) ∙ w .0)) s)
+    absurd (⊎-elim (λ w. let z = w .1 .unready in let r = eqb-true (o .message .ready) 1 e in omega arith) (λ w. k .2 (sym (k .0) ∙ w .0)) s)
 
 -- ** nothing, a break, an end of all, a message handed over
 
@@ -74,22 +74,19 @@ module _ (o : BulkOut) (m : List ℕ) (h : History) where
   wiped-after halted recent = (tt, record { ready = refl; line = refl; bytes = refl })
 
   module _ (s : OutSound o) (a : Agree o m h) where
-    idle : on (o .ready) ≡ true → take (o .held) m ≡ joined (h .transfers) ++ []
+    idle : on (o .message .ready) ≡ true → take (o .message .held) m ≡ joined (h .transfers) ++ []
     idle e = a .bytes ∙ ap (λ (l : List ℕ). joined (h .transfers) ++ l) (idle-line o (h .line) s (a .line) e)
 
     pub broken-after : (halted : ℕ) → After h broken-off (broken halted o) m
     unfolding remembered broken
-    broken-after halted = (
-      tt,
-      record {
-        ready = a .ready;
-        line = refl;
-        bytes = subst (λ (t : Bool). take (pick t (o .held) 0) m ≡ joined (pick (h .ended) (h .transfers) []) ++ []) (sym (a .ready))
-            (pick-both (λ (n : ℕ) (ts : List Transfer). take n m ≡ joined ts ++ []) (h .ended) (o .held) 0 (h .transfers) [] (λ e. idle (a .ready ∙ e)) (λ _. refl));
-      },
-    )
+    broken-after halted =
+        let k = subst (λ (t : Bool). P (pick t (o .message) noMessage) (pick (h .ended) (h .transfers) [])) (sym (a .ready)) (pick-both P (h .ended) _ _ _ _ (λ e. (a .ready, idle (a .ready ∙ e))) (λ e. (sym e, refl))) in
+        (tt, record { ready = k .0; line = refl; bytes = k .1 })
+      where
+        P : OutMessage → List Transfer → Type 0
+        P w ts = (on (w .ready) ≡ h .ended) × (take (w .held) m ≡ joined ts ++ [])
 
-    pub taken-after : on (o .ready) ≡ true → After h (handed-over (take (o .held) m)) (released o) m
+    pub taken-after : on (o .message .ready) ≡ true → After h (handed-over (take (o .message .held) m)) (released o) m
     unfolding remembered released
     taken-after e = (
       (sym (a .ready) ∙ e, idle e ∙ append-nil (joined (h .transfers))),
@@ -110,74 +107,65 @@ take-count n count d e =
     (cases (n ≤ᵇ length d))
 
 -- `count` bytes of `d` come, of the bytes that are left of a transfer which has brought `before`
-module _ (o : BulkOut) (m d before : List ℕ) (count : ℕ) (h : History) (stored : length m ≡ STORE) (room : o .held + o .left ≤ STORE)
-    (fits : count ≡ min (o .left) (length d)) (unended : h .ended ≡ false) (bytes : take (o .held) m ≡ joined (h .transfers) ++ before) where
+module _ (o : BulkOut) (m d before : List ℕ) (count : ℕ) (h : History) (stored : length m ≡ STORE) (room : o .message .held + o .transfer .left ≤ STORE)
+    (fits : count ≡ min (o .transfer .left) (length d)) (unended : h .ended ≡ false) (bytes : take (o .message .held) m ≡ joined (h .transfers) ++ before) where
   abbrev new : List ℕ
-  new = take (o .left) d
+  new = take (o .transfer .left) d
 
   new-length : length new ≡ count
-  new-length = length-take (o .left) d ∙ sym fits
+  new-length = length-take (o .transfer .left) d ∙ sym fits
 
-  now : take (o .held + count) (paste m (o .held) d count) ≡ joined (h .transfers) ++ (before ++ new)
+  now : take (o .message .held + count) (paste m (o .message .held) d count) ≡ joined (h .transfers) ++ (before ++ new)
   now =
-      take-paste m (o .held) d count (omega arith) (omega arith)
-      ∙ ap₂ (λ (x y : List ℕ). x ++ y) bytes (take-count (o .left) count d fits)
+      take-paste m (o .message .held) d count (omega arith) (omega arith)
+      ∙ ap₂ (λ (x y : List ℕ). x ++ y) bytes (take-count (o .transfer .left) count d fits)
       ∙ append-assoc (joined (h .transfers)) before new
 
   -- the transfer is complete, or some of it is left to come
-  full : length new ≡ o .left
-      → Agree (absorbed o count) (paste m (o .held) d count) (record { line = free; transfers = h .transfers ++ (record { bytes = before ++ new; end = on (o .end) } ∷ []); ended = on (o .end) })
-  unfolding absorbed
-  full e =
-      let l = new-length in
-      let t = eq-eqb (o .left) count (omega arith) in
-      record {
-        ready = ap on (at-true (o .left =ᵇ count) (o .end) OFF t);
-        line = omega arith;
-        bytes = now ∙ sym (joined-snoc (h .transfers) (record { bytes = before ++ new; end = on (o .end) })) ∙ sym (append-nil _);
-      }
+  abbrev Now : BulkOut → History → Type 0
+  Now q k = Agree q (paste m (o .message .held) d count) k
 
-  part : (length new ≡ o .left → ⊥)
-      → Agree (absorbed o count) (paste m (o .held) d count) (record { line = under-way (o .left - length new) (before ++ new) (on (o .end)); transfers = h .transfers; ended = h .ended })
-  unfolding absorbed
-  part e =
+  same-test : (length new =ᵇ o .transfer .left) ≡ (o .transfer .left =ᵇ count)
+  same-test =
       let l = new-length in
-      let t = ne-eqb (o .left) count (λ z. e (omega arith)) in
-      record {
-        ready = ap on (at-false (o .left =ᵇ count) (o .end) OFF t) ∙ sym unended;
-        line = (omega arith, ap on (at-false (o .left =ᵇ count) OFF (o .end) t), λ z. e (omega arith));
-        bytes = now;
-      }
+      ⊎-elim (λ t. let e = eqb-true (o .transfer .left) count t in eq-eqb (length new) (o .transfer .left) (omega arith) ∙ sym t)
+      (λ t. let e = eqb-false (o .transfer .left) count t in ne-eqb (length new) (o .transfer .left) (λ z. e (omega arith)) ∙ sym t) (cases (o .transfer .left =ᵇ count))
 
-  pub data-after : After h (data-bytes (o .left) before (on (o .end)) new) (absorbed o count) (paste m (o .held) d count)
-  unfolding remembered arrived
+  pub data-after : After h (data-bytes (o .transfer .left) before (on (o .transfer .end)) new) (absorbed o count) (paste m (o .message .held) d count)
+  unfolding remembered arrived absorbed
   data-after = (
     unended,
-    pick-all (Agree (absorbed o count) (paste m (o .held) d count)) (length new =ᵇ o .left) _ _ (λ e. full (eqb-true _ _ e)) (λ e. part (eqb-false _ _ e)),
+    subst (λ (t : Bool). Now (pick t (completed o count) (continued o count)) (arrived h (o .transfer .left) before (on (o .transfer .end)) new)) same-test
+        (pick-both Now (length new =ᵇ o .transfer .left) _ _ _ _
+        (λ _. record { ready = refl; line = refl; bytes = now ∙ sym (joined-snoc (h .transfers) (record { bytes = before ++ new; end = on (o .transfer .end) })) ∙ sym (append-nil _) })
+        (λ e. let l = new-length in let n = eqb-false (length new) (o .transfer .left) e in record { ready = sym unended; line = (omega arith, refl, λ z. n (omega arith)); bytes = now })),
   )
 
 -- ** where a history starts
 
-pub begun-agrees : (u : Device) → OutSound (outOf (u .state)) → Agree (outOf (u .state)) (u .message) (begun u)
-begun-agrees u s =
-    let o = outOf (u .state) in
-    let P : History → Type 0 = Agree (outOf (u .state)) (u .message) in
-    pick-all P (on (o .ready)) _ _ (λ e. record { ready = e; line = rests e s; bytes = whole })
-    (λ e. pick-all P (isOpenOut o) _ _ (λ f. record { ready = e; line = (refl, refl, neb-ne _ _ f); bytes = parted (o .held - o .got) })
-    (λ f. pick-all P (unfinished o) _ _ (λ _. record { ready = e; line = neb-eq _ _ f; bytes = whole })
-    (λ g. record { ready = e; line = neb-eq _ _ f; bytes = ap (λ (n : ℕ). take n (u .message)) (none e g s) })))
-  where
-    rests : on (outOf (u .state) .ready) ≡ true → OutSound (outOf (u .state)) → outOf (u .state) .left ≡ 0
-    rests e k = ⊎-elim (λ w. let z = w .1 .unready in let r = eqb-true (outOf (u .state) .ready) 1 e in absurd (omega arith)) (λ w. w .0) k
+module _ (u : Device) (s : OutSound (outOf (u .state))) where
+  abbrev o : BulkOut
+  o = outOf (u .state)
 
-    whole : heldOf u ≡ (heldOf u ++ []) ++ []
-    whole = sym (append-nil _ ∙ append-nil _)
+  rests : on (o .message .ready) ≡ true → o .transfer .left ≡ 0
+  rests e = ⊎-elim (λ w. let z = w .1 .unready in let r = eqb-true (o .message .ready) 1 e in absurd (omega arith)) (λ w. w .0) s
 
-    parted : (k : ℕ) → heldOf u ≡ (take k (heldOf u) ++ []) ++ drop k (heldOf u)
-    parted k = sym (ap (λ (l : List ℕ). l ++ drop k (heldOf u)) (append-nil (take k (heldOf u))) ∙ take-append-drop k (heldOf u))
+  whole : heldOf u ≡ (heldOf u ++ []) ++ []
+  whole = sym (append-nil _ ∙ append-nil _)
 
-    none : on (outOf (u .state) .ready) ≡ false → unfinished (outOf (u .state)) ≡ false → OutSound (outOf (u .state)) → outOf (u .state) .held ≡ 0
-    none e g k =
-        let r = eqb-false (outOf (u .state) .ready) 1 e in
-        let z : outOf (u .state) .ready ≡ 0 = ⊎-elim (λ w. w .1 .unready) (λ w. let b = w .1 .ready in omega arith) k in
-        neb-eq _ _ (not-both _ _ g (eq-eqb _ _ z))
+  parted : (k : ℕ) → heldOf u ≡ (take k (heldOf u) ++ []) ++ drop k (heldOf u)
+  parted k = sym (ap (λ (l : List ℕ). l ++ drop k (heldOf u)) (append-nil (take k (heldOf u))) ∙ take-append-drop k (heldOf u))
+
+  none : on (o .message .ready) ≡ false → unfinished o ≡ false → o .message .held ≡ 0
+  none e g =
+      let r = eqb-false (o .message .ready) 1 e in
+      let z : o .message .ready ≡ 0 = ⊎-elim (λ w. w .1 .unready) (λ w. let b = w .1 .ready in omega arith) s in
+      neb-eq _ _ (not-both _ _ g (eq-eqb _ _ z))
+
+  pub begun-agrees : Agree o (u .message) (begun u)
+  begun-agrees =
+      let P : History → Type 0 = Agree o (u .message) in
+      pick-all P (on (o .message .ready)) _ _ (λ e. record { ready = e; line = rests e; bytes = whole })
+      (λ e. pick-all P (isOpenOut o) _ _ (λ f. record { ready = e; line = (refl, refl, neb-ne _ _ f); bytes = parted (o .message .held - o .transfer .got) })
+      (λ f. pick-all P (unfinished o) _ _ (λ _. record { ready = e; line = neb-eq _ _ f; bytes = whole })
+      (λ g. record { ready = e; line = neb-eq _ _ f; bytes = ap (λ (n : ℕ). take n (u .message)) (none e g) })))

@@ -7,11 +7,11 @@ use mathlib.Core.List.{List, [], _∷_, _++_}
 use native.Mathlib.Omega.{arith}
 use lib.ListN.{length, take}
 use borrow.Author.Tests.{eq-eqb}
-use Rattle.rules.specs.Answers.{DONE, TELLS-NOTHING}
+use Rattle.rules.specs.Answers.{done}
 use Rattle.rules.proofs.Choice.{neb-eq, not-both}
 use Rattle.port.specs.Parts.{STORE, outOf}
 use Rattle.port.specs.Device.{Device, isSound, heldOf}
-use Rattle.port.specs.Step.{Call, setup-packet, out-packet, in-poll, take-into, offer-reply, set-status, front-panel, bus-reset, bus-suspend, step, after}
+use Rattle.port.specs.Step.{Call, setup-packet, out-packet, take-into, bus-reset, quiet, step, after}
 use Rattle.port.specs.Laws.{Stored}
 use Rattle.port.proofs.Calls.{keeps-sound, keeps-stored}
 use Rattle.claims.specs.Wire.{trace}
@@ -25,7 +25,7 @@ use Rattle.claims.proofs.Accepts.{onward, complete, taken}
 
 module _ (total : List ℕ) (long : length total ≤ STORE) (room : ℕ) (fits : length total ≤ room) where
   abbrev Arrived : Device → List Call → Type 0
-  Arrived u calls = Accepted (trace step u calls) × (step (after step u calls) (take-into room) .answer ≡ record { number = DONE; bytes = total; tells = TELLS-NOTHING })
+  Arrived u calls = Accepted (trace step u calls) × (step (after step u calls) (take-into room) .answer ≡ record { verdict = done; bytes = total })
 
   -- a call between packets changes nothing that counts
   still : (u : Device) (c : Call) (packets : List (List ℕ)) → Other c → Harmless c (step u c .answer) → Far total packets (face u) → Far total packets (face (step u c .unit))
@@ -34,15 +34,11 @@ module _ (total : List ℕ) (long : length total ≤ STORE) (room : ℕ) (fits :
   -- one call: a packet is answered 0, and the command is as far as before, or further
   one : (u : Device) → isSound u ≡ true → Stored u → (c : Call) (calls : List Call) → Far total (packetsAmong (c ∷ calls)) (face u) → Harmless c (step u c .answer)
       → Taken c (step u c .answer) × Far total (packetsAmong calls) (face (step u c .unit))
-  one u h s (setup-packet t n) calls f k = (tt, still u (setup-packet t n) _ tt k f)
+  one u h s (setup-packet p) calls f k = (tt, still u (setup-packet p) _ tt k f)
   one u h s (out-packet t) calls f k = onward u total h s long t (packetsAmong calls) f
-  one u h s (in-poll n) calls f k = (tt, still u (in-poll n) _ tt k f)
   one u h s (take-into n) calls f k = absurd k
-  one u h s (offer-reply bytes) calls f k = (tt, still u (offer-reply bytes) _ tt k f)
-  one u h s (set-status status) calls f k = (tt, still u (set-status status) _ tt k f)
-  one u h s front-panel calls f k = (tt, still u front-panel _ tt k f)
   one u h s bus-reset calls f k = (tt, still u bus-reset _ tt k f)
-  one u h s bus-suspend calls f k = (tt, still u bus-suspend _ tt k f)
+  one u h s (quiet q) calls f k = (tt, still u (quiet q) _ tt k f)
 
   arrives : (calls : List Call) (u : Device) → isSound u ≡ true → Stored u → Far total (packetsAmong calls) (face u) → Undisturbed (trace step u calls) → Arrived u calls
   unfolding trace after
@@ -64,4 +60,4 @@ whole-command u pieces calls room stored w s fits =
     unmarked (p ∷ ps) e = refl
 
     empty : heldOf u ++ command pieces ≡ command pieces
-    empty = let e : outOf (u .state) .held ≡ 0 = neb-eq _ _ (not-both _ _ (w .finished) (eq-eqb (outOf (u .state) .ready) 0 (w .unready))) in ap (λ (n : ℕ). take n (u .message) ++ command pieces) e
+    empty = let e : outOf (u .state) .message .held ≡ 0 = neb-eq _ _ (not-both _ _ (w .finished) (eq-eqb (outOf (u .state) .message .ready) 0 (w .unready))) in ap (λ (n : ℕ). take n (u .message) ++ command pieces) e

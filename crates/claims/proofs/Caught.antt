@@ -1,21 +1,21 @@
 -- The claims shut out every idle unit: each is refuted by the one-byte commands "A" and "B", sent to a unit just configured.
 -- Assumes nothing.
 use Prim.Native.Nat.{ℕ}
-use mathlib.Core.Path.{_≡_, refl, sym, ap, _∙_}
-use mathlib.Core.Bool.{true, false}
+use mathlib.Core.Path.{_≡_, refl, ap}
 use mathlib.Core.List.{List, [], _∷_}
 use native.Mathlib.Omega.{arith}
-use lib.ListN.{length, getD, length-replicate}
+use lib.ListN.{getD, length-replicate}
 use Rattle.wire.specs.Header.{ON}
 use Rattle.port.specs.Parts.{STORE}
-use Rattle.port.specs.In.{Answer}
+use Rattle.rules.specs.Answers.{done}
+use Rattle.port.specs.Answer.{Answer, number}
 use Rattle.port.specs.Device.{Device, made, zeroed}
-use Rattle.port.specs.Step.{Call, out-packet, take-into, Stepping, step}
+use Rattle.port.specs.Step.{out-packet, take-into, Stepping}
 use Rattle.port.specs.Idle.{constant, refusing, idling, doingNothing, pretending}
 use Rattle.port.specs.Laws.{Stored}
 use Rattle.port.proofs.Opened.{computed}
 use Rattle.claims.specs.Wire.{trace}
-use Rattle.claims.specs.Command.{Piece, command, transfer, cutUp, sending, packetsAmong, Waiting}
+use Rattle.claims.specs.Command.{Piece, transfer, cutUp, sending, packetsAmong, Waiting}
 use Rattle.claims.specs.Claims.{WholeCommand, Claimed}
 
 configured : Device
@@ -42,12 +42,12 @@ sent b = refl
 
 -- what WholeCommand says of the letter
 module _ (does : Stepping) (claim : WholeCommand does) (b : ℕ) where
-  handed : does (does configured (out-packet (packet b)) .unit) (take-into 1) .answer ≡ record { number = 0; bytes = b ∷ []; tells = 0 }
+  handed : does (does configured (out-packet (packet b)) .unit) (take-into 1) .answer ≡ record { verdict = done; bytes = b ∷ [] }
   unfolding configured made computed letter trace
   handed = claim configured (letter b) (out-packet (packet b) ∷ []) 1 stored waiting (record { good = (omega arith, omega arith, omega arith, tt); some = omega arith; fits = omega arith; packets = sent b; undisturbed = (tt, tt) }) (omega arith) .1
 
 abbrev number-of : Answer → ℕ
-number-of a = a .number
+number-of a = a .verdict .number
 
 abbrev first-of : Answer → ℕ
 first-of a = getD (a .bytes) 0 0
@@ -61,7 +61,7 @@ no-constant-answer a c =
     omega arith
 
 pub no-refusing : (n : ℕ) → Claimed (refusing n) → ⊥
-no-refusing n c = no-constant-answer (record { number = n; bytes = []; tells = 0 }) c
+no-refusing n c = no-constant-answer (number n) c
 
 -- nothing to take
 pub no-doing-nothing : Claimed doingNothing → ⊥

@@ -2,14 +2,14 @@
 -- unit and the history in agreement.
 -- Assumes nothing.
 use Prim.Native.Nat.{ℕ, _+_, _≤_, min}
-use mathlib.Core.Path.{_≡_, refl, sym, ap, _∙_}
+use mathlib.Core.Path.{_≡_, refl, sym, ap, _∙_, subst}
 use mathlib.Core.Bool.{true, false}
 use mathlib.Core.List.{List, [], _∷_, _++_}
 use lib.ListN.{length, take, drop, length-drop}
 use lib.Seq.{paste, paste-zero}
 use mathlib.Core.Logic.{⊎-elim}
-use Rattle.rules.specs.Choice.{_=ᵇ_, no, pick}
-use Rattle.rules.specs.Answers.{DONE, UNSOUND, UNCONFIGURED, WRONG-SIZE, NO-ROW, NOT-NOW, SUCCESS, FAILED, TRANSFER-NOT-IN-PROGRESS, SPLIT-IN-PROGRESS}
+use Rattle.rules.specs.Choice.{_=ᵇ_, pick}
+use Rattle.rules.specs.Answers.{DONE, UNCONFIGURED, WRONG-SIZE, NO-ROW, NOT-NOW, SUCCESS, FAILED, TRANSFER-NOT-IN-PROGRESS, SPLIT-IN-PROGRESS}
 use Rattle.rules.proofs.Choice.{pick-all, decide-all, at-true, at-false, not-no}
 use Rattle.wire.specs.Header.{HEADER, OFF, ON}
 use Rattle.wire.specs.Setup.{readSetup}
@@ -19,27 +19,27 @@ use Rattle.wire.specs.declared.types.Row.{Row}
 use Rattle.wire.specs.declared.types.Row.the-variants.{InitiateAbortBulkOut, CheckAbortBulkOutStatus, InitiateAbortBulkIn, CheckAbortBulkInStatus, InitiateClear, CheckClearStatus, GetCapabilities, IndicatorPulse, ReadStatusByte, RenControl, GoToLocal, LocalLockout, ClearFeature, SetFeature, GetStatus}
 use Rattle.wire.specs.declared.types.Setup.{Setup}
 use Rattle.wire.specs.declared.types.Setup.the-variants.{Configure, Asks, NoRow}
-use Rattle.port.specs.Parts.{STORE, on, isSize, isOpenOut, isOpenIn, isOwed, isClear, outOf, inOf, isConfigured, broken, fresh}
-use Rattle.port.specs.Remote.{localNow}
-use Rattle.port.specs.Out.{plain, opened, tagged, outcome, planned, accepted, outPlan}
-use Rattle.port.specs.In.{Answer, Said, number, says, refuse, inRules, send, poll}
-use Rattle.port.specs.Rows.{abortRules, inTag, initiateAbortOut, initiateAbortIn, checkAbortOut, checkAbortIn, clearing, initiateClear, checkClear, clearFeatureOut, answerRow}
-use Rattle.port.specs.Device.{Device, Result, isSound, heldOf, zeroed, made, powerOn}
-use Rattle.port.specs.Calls.{refused, said, carriedOut, bulkOut, bulkIn, setupRules, served, wiped, answered, setup, takeRules, released, taking, take-message, offerRules, offerPlan, offer, thermostatRules, statusSet, setStatus, returned, panel, busRules, busReset, suspended, suspend}
-use Rattle.port.specs.Step.{Call, setup-packet, out-packet, in-poll, take-into, offer-reply, set-status, front-panel, bus-reset, bus-suspend, step}
+use Rattle.port.specs.Parts.{STORE, on, isSize, isOpenOut, isClear, outOf, isConfigured, broken, fresh}
+use Rattle.port.specs.Answer.{Answer, Said, number, refuse}
+use Rattle.port.specs.Out.{opened, tagged, outcome, planned, accepted, outPlan}
+use Rattle.port.specs.Rows.{Reaction, answering, abortRules, outTag, initiateAbortOut, clearing, initiateClear, clearFeatureOut, answerRow, effected}
+use Rattle.port.specs.Device.{Device, Result, isSound, withState, heldOf, zeroed, made, powerOn}
+use Rattle.port.specs.Calls.{refused, said, carriedOut, bulkOut, setupRules, asked, setupOutcome, answered, setup, takeRules, released, taking, take-message, busReset}
+use Rattle.port.specs.Step.{SetupPacket, Call, setup-packet, out-packet, take-into, bus-reset, quiet, quietly, soundly, step}
+use Rattle.port.specs.Breaks.{breaksRow}
 use Rattle.port.specs.Laws.{Stored}
 use Rattle.port.specs.declared.types.Setting.{Setting}
 use Rattle.port.specs.declared.types.BulkOut.{BulkOut}
-use Rattle.port.specs.declared.types.Split.{Split}
-use Rattle.port.specs.declared.types.Split.the-variants.{None, AbortOut, AbortIn, Clear}
+use Rattle.port.specs.declared.types.SetupOutcome.{SetupOutcome}
+use Rattle.port.specs.declared.types.SetupOutcome.the-variants.{Denies}
 use Rattle.port.specs.declared.types.State.{State}
-use Rattle.port.specs.declared.types.Plan.{Plan}
 use Rattle.port.specs.declared.types.Outcome.{Outcome}
 use Rattle.port.specs.declared.types.Outcome.the-variants.{Keep, Halt, Data, Accept}
 use Rattle.port.proofs.Soundness.{OutSound, sound-of}
-use Rattle.port.proofs.Calls.{power-on-sound, power-on-stored, keeps-sound, keeps-stored}
+use Rattle.port.proofs.Calls.{power-on-sound, power-on-stored, step-sound, keeps-sound, keeps-stored}
 use Rattle.claims.specs.Wire.{trace, Line, free, History, Heard, nothing, data-bytes, broken-off, wiped-out, handed-over, carried, heardPacket, heard, joined, emptied, remembered, Legal, begun}
 use Rattle.claims.specs.Claims.{NoHalfCommand, NoHalfCommandEver}
+use Rattle.claims.proofs.Between.{Face, face, row-kept, quiet-kept}
 use Rattle.claims.proofs.Setups.{inRow, Told, told, heard-done, heard-refused}
 use Rattle.claims.proofs.Packets.{Facts, outcome-facts, passing}
 use Rattle.claims.proofs.Agreement.{come, Agree, After, after-by, free-line, open-line, unheard, wiped-after, broken-after, taken-after, data-after, begun-agrees}
@@ -48,23 +48,31 @@ use Rattle.claims.proofs.Agreement.{come, Agree, After, after-by, free-
 abbrev Goes : History → Call → Result → Type 0
 Goes h c r = After h (heard (h .line) c (r .answer)) (outOf (r .unit .state)) (r .unit .message)
 
-module _ (u : Device) (h : History) (stored : Stored u) (s : OutSound (outOf (u .state))) (a : Agree (outOf (u .state)) (u .message) h) where
+module _ (u : Device) (h : History) (stored : Stored u) (sound : isSound u ≡ true) (a : Agree (outOf (u .state)) (u .message) h) where
   abbrev st : State
   st = u .state
 
+  s : OutSound (outOf st)
+  s = sound-of st sound .out
+
   still : After h nothing (outOf st) (u .message)
   still = unheard (outOf st) (u .message) h a
+
+  -- a unit that has kept what a packet is decided by
+  kept : (v : Device) → face v ≡ face u → After h nothing (outOf (v .state)) (v .message)
+  kept v e = subst (λ (f : Face). After h nothing (f .out) (f .message)) (sym e) still
 
   breaks : (halted : ℕ) → After h broken-off (broken halted (outOf st)) (u .message)
   breaks halted = broken-after (outOf st) (u .message) h s a halted
 
   -- ** setup rows
 
-  abbrev Rows : (Answer → Heard) → Said → Type 0
-  Rows heeds r = (r .answer .number ≡ DONE) × After h (heeds (r .answer)) (outOf (r .state)) (u .message)
+  abbrev Rows : (Answer → Heard) → Reaction → Type 0
+  Rows heeds r = After h (heeds (r .answer)) (outOf (effected st (r .effect))) (u .message)
 
-  abbrev Quiet : Said → Type 0
-  Quiet r = Rows (λ _. nothing) r
+  -- a row whose answer is no break
+  calm : (row : Row) → breaksRow row (answerRow st row .answer .bytes) ≡ false → Rows (λ _. nothing) (answerRow st row)
+  calm row e = kept (withState u (effected st (answerRow st row .effect))) (row-kept u row .1 e)
 
   -- a status that is not SUCCESS, and SUCCESS
   failing : (x : Heard) (status : ℕ) → (status =ᵇ 1) ≡ false → After h (pick (status =ᵇ 1) x nothing) (outOf st) (u .message)
@@ -74,76 +82,62 @@ module _ (u : Device) (h : History) (stored : Stored u) (s : OutSound (outOf (u 
   succeeds x o k = after-by h o _ x (u .message) _ (at-true _ _ _ refl) refl k
 
   row-goes : (row : Row) → Rows (inRow row) (answerRow st row)
-  unfolding answerRow initiateAbortOut initiateAbortIn checkAbortOut checkAbortIn initiateClear clearing checkClear clearFeatureOut localNow
+  unfolding answerRow initiateAbortOut initiateClear effected clearing clearFeatureOut
   row-goes (InitiateAbortBulkOut tag) =
-      decide-all (Rows (inRow (InitiateAbortBulkOut tag))) (λ status. says st (status ∷ outOf st .recent ∷ [])) (abortRules (st .split) (isOpenOut (outOf st)) (outOf st .recent) tag) _
-      ((refl, failing broken-off SPLIT-IN-PROGRESS refl), ((refl, failing broken-off FAILED refl), ((refl, failing broken-off TRANSFER-NOT-IN-PROGRESS refl), tt)))
-      (λ _. (refl, succeeds broken-off _ (breaks ON)))
-  row-goes CheckAbortBulkOutStatus = by (st .split)
-    where
-      by : (split : Split) → Quiet (checkAbortOut st split)
-      by None = (refl, still)
-      by (AbortOut count) = (refl, still)
-      by (AbortIn count) = (refl, still)
-      by Clear = (refl, still)
-  row-goes (InitiateAbortBulkIn tag) =
-      decide-all Quiet (λ status. says st (status ∷ inTag (inOf st) ∷ [])) (abortRules (st .split) (isOpenIn (inOf st)) (inTag (inOf st)) tag) _
-      ((refl, still), ((refl, still), ((refl, still), tt))) (λ _. (refl, still))
-  row-goes CheckAbortBulkInStatus = by (st .split)
-    where
-      by : (split : Split) → Quiet (checkAbortIn st split)
-      by None = (refl, still)
-      by (AbortOut count) = (refl, still)
-      by (AbortIn count) = pick-all Quiet (isOwed (inOf st)) _ _ (λ _. (refl, still)) (λ _. (refl, still))
-      by Clear = (refl, still)
+      decide-all (Rows (inRow (InitiateAbortBulkOut tag))) (λ status. answering (status ∷ outTag (outOf st) ∷ [])) (abortRules (st .split) (isOpenOut (outOf st)) (outTag (outOf st)) tag) _
+      (failing broken-off SPLIT-IN-PROGRESS refl, (failing broken-off FAILED refl, (failing broken-off TRANSFER-NOT-IN-PROGRESS refl, tt)))
+      (λ _. succeeds broken-off _ (breaks ON))
+  row-goes CheckAbortBulkOutStatus = calm CheckAbortBulkOutStatus refl
+  row-goes (InitiateAbortBulkIn tag) = calm (InitiateAbortBulkIn tag) refl
+  row-goes CheckAbortBulkInStatus = calm CheckAbortBulkInStatus refl
   row-goes InitiateClear =
-      pick-all (Rows (inRow InitiateClear)) (isClear (st .split)) _ _ (λ _. (refl, failing wiped-out SPLIT-IN-PROGRESS refl))
-      (λ _. (refl, succeeds wiped-out _ (wiped-after (outOf st) (u .message) h ON 0)))
-  row-goes CheckClearStatus =
-      pick-all Quiet (no (isClear (st .split))) _ _ (λ _. (refl, still)) (λ _. pick-all Quiet (isOwed (inOf st)) _ _ (λ _. (refl, still)) (λ _. (refl, still)))
-  row-goes GetCapabilities = (refl, still)
-  row-goes IndicatorPulse = (refl, still)
-  row-goes (ReadStatusByte tag) = (refl, still)
-  row-goes (RenControl ren) = (refl, pick-all (λ (t : State). After h nothing (outOf t) (u .message)) (on ren) _ _ (λ _. still) (λ _. still))
-  row-goes GoToLocal = (refl, still)
-  row-goes LocalLockout = (refl, still)
-  row-goes (ClearFeature Out) = (refl, breaks _)
-  row-goes (ClearFeature In) = (refl, still)
-  row-goes (SetFeature Out) = (refl, breaks ON)
-  row-goes (SetFeature In) = (refl, still)
-  row-goes (GetStatus Out) = (refl, still)
-  row-goes (GetStatus In) = (refl, still)
+      pick-all (Rows (inRow InitiateClear)) (isClear (st .split)) _ _ (λ _. failing wiped-out SPLIT-IN-PROGRESS refl) (λ _. succeeds wiped-out _ (wiped-after (outOf st) (u .message) h ON 0))
+  row-goes CheckClearStatus = calm CheckClearStatus refl
+  row-goes GetCapabilities = still
+  row-goes IndicatorPulse = still
+  row-goes (ReadStatusByte tag) = still
+  row-goes (RenControl ren) = calm (RenControl ren) refl
+  row-goes GoToLocal = still
+  row-goes LocalLockout = still
+  row-goes (ClearFeature Out) = breaks _
+  row-goes (ClearFeature In) = still
+  row-goes (SetFeature Out) = breaks ON
+  row-goes (SetFeature In) = still
+  row-goes (GetStatus endpoint) = still
 
-  module _ (p : List ℕ) (room : ℕ) where
+  module _ (p : SetupPacket) where
     abbrev packet : Call
-    packet = setup-packet p room
+    packet = setup-packet p
 
     refusing : (n : ℕ) → (n =ᵇ 0) ≡ false → Goes h packet (refused u n)
     unfolding heard
-    refusing n e = after-by h (outOf st) _ nothing (u .message) _ (heard-refused p _ e) refl still
+    refusing n e = after-by h (outOf st) _ nothing (u .message) _ (heard-refused (p .packet) _ e) refl still
 
-    answers : (x : Setup) → Told p x → Goes h packet (answered u x)
-    unfolding heard answered served wiped fresh
-    answers (Configure value) k = after-by h _ _ wiped-out zeroed _ (heard-done p (number DONE) refl ∙ k (number DONE)) refl (wiped-after (outOf st) zeroed h OFF 0)
+    abbrev Comes : SetupOutcome → Type 0
+    Comes x = Goes h packet (answered u x)
+
+    answers : (x : Setup) → Told (p .packet) x → Comes (asked st x)
+    unfolding heard answered asked made fresh
+    answers (Configure value) k = after-by h _ _ wiped-out zeroed _ (heard-done (p .packet) (number DONE) refl ∙ k (number DONE)) refl (wiped-after (outOf st) zeroed h OFF 0)
     answers (Asks row) k =
-        pick-all (λ (r : Said). Goes h packet (said u r)) (isConfigured st) _ _
-        (λ _. let g = row-goes row in after-by h _ _ (inRow row (answerRow st row .answer)) (u .message) _ (heard-done p _ (g .0) ∙ k _) refl (g .1))
+        pick-all Comes (isConfigured st) _ _
+        (λ _. after-by h _ _ (inRow row (answerRow st row .answer)) (u .message) _ (heard-done (p .packet) _ (row-kept u row .0) ∙ k _) refl (row-goes row))
         (λ _. refusing NO-ROW refl)
     answers NoRow k = refusing NO-ROW refl
 
-    setup-goes : Goes h packet (setup u p room)
-    unfolding setup
-    setup-goes = decide-all (Goes h packet) (refused u) (setupRules st (length p) room) _ (refusing UNSOUND refl, (refusing WRONG-SIZE refl, tt)) (λ _. answers (readSetup p) (told p))
+    setup-goes : Goes h packet (setup u (p .packet) (p .room))
+    unfolding setup setupOutcome answered
+    setup-goes = decide-all Comes Denies (setupRules (length (p .packet)) (p .room)) _ (refusing WRONG-SIZE refl, tt) (λ _. answers (readSetup (p .packet)) (told (p .packet)))
 
   -- ** Bulk-OUT
 
   module _ (p : List ℕ) where
     -- nothing is put into the store
-    unput : u .message ≡ paste (u .message) (outOf st .held) p 0
-    unput = paste-zero (u .message) (outOf st .held) p
+    unput : u .message ≡ paste (u .message) (outOf st .message .held) p 0
+    unput = paste-zero (u .message) (outOf st .message .held) p
 
-    is-free : outOf st .left ≡ 0 → h .line ≡ free
-    is-free e = free-line (outOf st .left) (on (outOf st .end)) (h .line) (a .line) e
+    is-free : outOf st .transfer .left ≡ 0 → h .line ≡ free
+    is-free e = free-line (outOf st .transfer .left) (on (outOf st .transfer .end)) (h .line) (a .line) e
 
     -- between transfers
     free-passing : h .line ≡ free → heardPacket (h .line) p DONE ≡ carried free p
@@ -158,11 +152,11 @@ module _ (u : Device) (h : History) (stored : Stored u) (s : OutSound (outOf (u 
     comes (Keep n) f = after-by h (outOf st) _ nothing (u .message) _ (f (h .line) is-free) unput still
     comes (Halt n) f = after-by h _ _ broken-off (u .message) _ (f (h .line)) unput (breaks ON)
     comes (Data count) f =
-        after-by h _ _ (data-bytes (outOf st .left) (come (h .line)) (on (outOf st .end)) (take (outOf st .left) p)) _ _
-        (passing p (h .line) ∙ open-line (outOf st .left) (on (outOf st .end)) (h .line) p (a .line) (f .1)) refl
+        after-by h _ _ (data-bytes (outOf st .transfer .left) (come (h .line)) (on (outOf st .transfer .end)) (take (outOf st .transfer .left) p)) _ _
+        (passing p (h .line) ∙ open-line (outOf st .transfer .left) (on (outOf st .transfer .end)) (h .line) p (a .line) (f .1)) refl
         (data-after (outOf st) (u .message) p (come (h .line)) count h (stored .message) room (f .2) (sym (a .ready) ∙ f .0) (a .bytes))
       where
-        room : outOf st .held + outOf st .left ≤ STORE
+        room : outOf st .message .held + outOf st .transfer .left ≤ STORE
         room = ⊎-elim (λ w. w .1 .room) (λ w. absurd (f .1 (w .0))) s
     comes (Accept (Message tag size end) count) f =
         after-by h _ _ (data-bytes size [] (on end) (take size (drop HEADER p))) _ _ (free-passing (is-free (f .1)) ∙ f .4) refl
@@ -181,45 +175,22 @@ module _ (u : Device) (h : History) (stored : Stored u) (s : OutSound (outOf (u 
   unfolding heard take-message taking
   take-goes room =
       decide-all (λ (r : Said). Goes h (take-into room) (said u r)) (refuse st) (takeRules st room) _
-      (refusing UNSOUND refl, (refusing UNCONFIGURED refl, (refusing NOT-NOW refl, (refusing WRONG-SIZE refl, tt))))
-      (λ n. given (not-no _ (n .1 .1 .0)))
+      (refusing UNCONFIGURED refl, (refusing NOT-NOW refl, (refusing WRONG-SIZE refl, tt)))
+      (λ n. given (not-no _ (n .1 .0)))
     where
       refusing : (n : ℕ) → (n =ᵇ 0) ≡ false → After h (pick (n =ᵇ 0) (handed-over []) nothing) (outOf st) (u .message)
       refusing n e = after-by h (outOf st) _ nothing (u .message) _ (at-false _ _ _ e) refl still
 
-      given : on (outOf st .ready) ≡ true → After h (pick (DONE =ᵇ 0) (handed-over (heldOf u)) nothing) (released (outOf st)) (u .message)
+      given : on (outOf st .message .ready) ≡ true → After h (pick (DONE =ᵇ 0) (handed-over (heldOf u)) nothing) (released (outOf st)) (u .message)
       given e = after-by h _ _ (handed-over (heldOf u)) (u .message) _ (at-true _ _ _ refl) refl (taken-after (outOf st) (u .message) h s a e)
 
-  -- what is heard of a poll, and what it leaves of the message
-  abbrev Leaves : Said → Type 0
-  Leaves r = After h nothing (outOf (r .state)) (u .message)
-
-  poll-goes : (room : ℕ) → Goes h (in-poll room) (bulkIn u room)
-  unfolding heard bulkIn poll send
-  poll-goes room =
-      decide-all Leaves (refuse st) (inRules st room) _ (still, (still, (still, (still, (still, tt))))) (λ _. pick-all Leaves (isOwed (inOf st)) _ _ (λ _. still) (λ _. still))
-
-  offer-goes : (bytes : List ℕ) → Goes h (offer-reply bytes) (offer u bytes)
-  unfolding heard offer offerPlan
-  offer-goes bytes = decide-all (λ (p : Plan). After h nothing (outOf (p .state)) (u .message)) (plain st) (offerRules st (length bytes)) _ (still, (still, (still, (still, tt)))) (λ _. still)
-
-  reset-goes : Goes h bus-reset (busReset u)
-  unfolding heard busReset answered served wiped fresh
-  reset-goes =
-      decide-all (Goes h bus-reset) (refused u) (busRules st) _ (after-by h (outOf st) _ nothing (u .message) _ (at-false _ _ _ refl) refl still, tt)
-      (λ _. after-by h _ _ wiped-out zeroed _ (at-true _ _ _ refl) refl (wiped-after (outOf st) zeroed h OFF 0))
-
-  goes : (c : Call) → Goes h c (step u c)
-  unfolding step heard setStatus statusSet panel returned suspend suspended localNow
-  goes (setup-packet p room) = setup-goes p room
+  goes : (c : Call) → Goes h c (soundly u c)
+  unfolding soundly heard busReset made fresh
+  goes (setup-packet p) = setup-goes p
   goes (out-packet p) = out-goes p
-  goes (in-poll room) = poll-goes room
   goes (take-into room) = take-goes room
-  goes (offer-reply bytes) = offer-goes bytes
-  goes (set-status status) = decide-all Leaves (refuse st) (thermostatRules st) _ (still, (still, tt)) (λ _. still)
-  goes front-panel = decide-all Leaves (refuse st) (thermostatRules st) _ (still, (still, tt)) (λ _. still)
-  goes bus-reset = reset-goes
-  goes bus-suspend = decide-all Leaves (refuse st) (busRules st) _ (still, tt) (λ _. still)
+  goes bus-reset = after-by h _ _ wiped-out zeroed _ (at-true _ _ _ refl) refl (wiped-after (outOf st) zeroed h OFF 0)
+  goes (quiet q) = kept (quietly u q .unit) (quiet-kept u q)
 
 -- ** the theorems
 
@@ -227,7 +198,7 @@ legal : (calls : List Call) (u : Device) (h : History) → Stored u → isSound 
 unfolding trace
 legal [] u h st so a = tt
 legal (c ∷ calls) u h st so a =
-    let g = goes u h st (sound-of _ so .out) a c in
+    let g : Goes h c (step u c) = subst (Goes h c) (sym (step-sound u c so)) (goes u h st so a c) in
     (g .0, legal calls (step u c .unit) (remembered h (heard (h .line) c (step u c .answer))) (keeps-stored u c st) (keeps-sound u c so) (g .1))
 
 pub no-half-command : NoHalfCommand step

@@ -9,10 +9,9 @@ use native.Mathlib.Omega.{arith}
 use lib.ListN.{length, take, drop, length-drop, take-append-drop}
 use lib.Seq.{paste, take-paste, take-length}
 use borrow.Author.Tests.{eq-eqb, ne-eqb}
-use Rattle.rules.specs.Choice.{_=ᵇ_}
 use Rattle.rules.proofs.Choice.{at-true, at-false}
 use Rattle.port.specs.Parts.{isSize}
-use Rattle.port.specs.Out.{absorbed}
+use Rattle.port.specs.Out.{completed, continued, absorbed}
 use Rattle.port.specs.Device.{heldIn}
 use Rattle.port.specs.declared.types.BulkOut.{BulkOut}
 use Rattle.claims.specs.Command.{Piece, command, Good, cutUp, packetsOf, sending}
@@ -34,8 +33,8 @@ sending-is size p (q ∷ ps) = refl
 -- the transfers `ps` are to come
 pub record Between (total : List ℕ) (packets : List (List ℕ)) (f : Face) (ps : List Piece) : Type 0 where
   pub good : Good ps
-  pub closed : f .out .left ≡ 0
-  pub ready : f .out .ready ≡ mark ps
+  pub closed : f .out .transfer .left ≡ 0
+  pub ready : f .out .message .ready ≡ mark ps
   pub bytes : heldIn (f .out) (f .message) ++ command ps ≡ total
   pub packets-are : packets ≡ sending (f .size) ps
 
@@ -43,9 +42,9 @@ pub record Between (total : List ℕ) (packets : List (List ℕ)) (f : Face) (ps
 pub record Within (total : List ℕ) (packets : List (List ℕ)) (f : Face) (ps : List Piece) (d : List ℕ) (most : ℕ) : Type 0 where
   pub good : Good ps
   pub some : 1 ≤ length d
-  pub left : f .out .left ≡ length d
-  pub end : f .out .end ≡ mark ps
-  pub ready : f .out .ready ≡ 0
+  pub left : f .out .transfer .left ≡ length d
+  pub end : f .out .transfer .end ≡ mark ps
+  pub ready : f .out .message .ready ≡ 0
   pub bytes : heldIn (f .out) (f .message) ++ (d ++ command ps) ≡ total
   pub enough : length (body d) ≤ most
   pub packets-are : packets ≡ cutUp most (f .size) (body d) ++ sending (f .size) ps
@@ -89,51 +88,57 @@ module _ (P : ℕ) (head d : List ℕ) (size : isSize P ≡ true) (short : lengt
 
   -- what has come is absorbed
   module _ (f : Face) (o : BulkOut) where
-    abbrev pub landed : Face
-    landed = record { out = absorbed o n; message = paste (f .message) (o .held) (drop (length head) now) n; size = P; configured = f .configured }
+    abbrev before : List ℕ
+    before = heldIn o (f .message)
 
-    held-now : o .held ≤ length (f .message) → heldIn (landed .out) (landed .message) ≡ take (o .held) (f .message) ++ take n d
-    unfolding absorbed
+    abbrev landed : BulkOut → Face
+    landed q = record { out = q; message = paste (f .message) (o .message .held) (drop (length head) now) n; size = P; configured = f .configured }
+
+    held-now : o .message .held ≤ length (f .message) → heldIn (completed o n) (landed o .message) ≡ before ++ take n d
     held-now fits =
-        take-paste (f .message) (o .held) (drop (length head) now) n fits (count-fits P head d size short fours some)
-        ∙ ap (λ (l : List ℕ). take (o .held) (f .message) ++ l) (data-first P head d size short fours some)
+        take-paste (f .message) (o .message .held) (drop (length head) now) n fits (count-fits P head d size short fours some)
+        ∙ ap (λ (l : List ℕ). before ++ l) (data-first P head d size short fours some)
 
     module _
         (total : List ℕ) (packets : List (List ℕ)) (left : ℕ)
-        (good : Good ps) (fits : o .held ≤ length (f .message)) (to-come : o .left ≡ length d) (end : o .end ≡ mark ps)
-        (bytes : take (o .held) (f .message) ++ (d ++ command ps) ≡ total)
+        (good : Good ps) (fits : o .message .held ≤ length (f .message)) (to-come : o .transfer .left ≡ length d) (end : o .transfer .end ≡ mark ps)
+        (bytes : before ++ (d ++ command ps) ≡ total)
         (enough : length later ≤ left) (are : packets ≡ cutUp left P later ++ sending P ps) where
-      whole : n ≡ length d → later ≡ [] → Between total packets landed ps
-      unfolding absorbed
+      whole : n ≡ length d → later ≡ [] → Between total packets (landed (completed o n)) ps
       whole e none = record {
         good = good;
-        closed = omega arith;
-        ready = at-true (o .left =ᵇ n) _ _ (eq-eqb (o .left) n (omega arith)) ∙ end;
-        bytes = ap (λ (l : List ℕ). l ++ command ps) (held-now fits ∙ ap (λ (k : ℕ). take (o .held) (f .message) ++ take k d) e ∙ ap (λ (l : List ℕ). take (o .held) (f .message) ++ l) (take-length d))
-            ∙ append-assoc (take (o .held) (f .message)) d (command ps)
+        closed = refl;
+        ready = end;
+        bytes = ap (λ (l : List ℕ). l ++ command ps) (held-now fits ∙ ap (λ (k : ℕ). before ++ take k d) e ∙ ap (λ (l : List ℕ). before ++ l) (take-length d))
+            ∙ append-assoc before d (command ps)
             ∙ bytes;
         packets-are = are ∙ ap (λ (l : List ℕ). cutUp left P l ++ sending P ps) none ∙ ap (λ (l : List (List ℕ)). l ++ sending P ps) (cut-none left P);
       }
 
-      part : Rest P head d size short fours some → Within total packets landed ps (drop n d) left
-      unfolding absorbed
+      part : Rest P head d size short fours some → Within total packets (landed (continued o n)) ps (drop n d) left
       part r =
           let less = r .less in
           let long = length-drop n d in
-          let unlike = ne-eqb (o .left) n (λ e. omega arith) in
           record {
             good = good;
             some = omega arith;
             left = omega arith;
-            end = at-false (o .left =ᵇ n) _ _ unlike ∙ end;
-            ready = at-false (o .left =ᵇ n) _ _ unlike;
+            end = end;
+            ready = refl;
             bytes = ap (λ (l : List ℕ). l ++ (drop n d ++ command ps)) (held-now fits)
-                ∙ append-assoc (take (o .held) (f .message)) (take n d) (drop n d ++ command ps)
-                ∙ ap (λ (l : List ℕ). take (o .held) (f .message) ++ l) (sym (append-assoc (take n d) (drop n d) (command ps)) ∙ ap (λ (l : List ℕ). l ++ command ps) (take-append-drop n d))
+                ∙ append-assoc before (take n d) (drop n d ++ command ps)
+                ∙ ap (λ (l : List ℕ). before ++ l) (sym (append-assoc (take n d) (drop n d) (command ps)) ∙ ap (λ (l : List ℕ). l ++ command ps) (take-append-drop n d))
                 ∙ bytes;
             enough = subst (λ (l : List ℕ). length l ≤ left) (r .on) enough;
             packets-are = are ∙ ap (λ (l : List ℕ). cutUp left P l ++ sending P ps) (r .on);
           }
 
-      pub lands : Ahead total packets landed
-      lands = ⊎-elim (λ w. between ps (whole (w .0) (w .1))) (λ r. within ps (drop n d) left (part r)) (goes P head d size short fours some)
+      pub lands : o .halted ≡ 0 → f .configured ≡ true → Far total packets (landed (absorbed o n))
+      unfolding absorbed
+      lands running configured =
+          ⊎-elim (λ w. subst A (sym (at-true _ _ _ (eq-eqb (o .transfer .left) n (omega arith)))) (record { running = running; configured = configured; ahead = between ps (whole (w .0) (w .1)) }))
+          (λ r. let l = r .less in subst A (sym (at-false _ _ _ (ne-eqb (o .transfer .left) n (λ e. omega arith)))) (record { running = running; configured = configured; ahead = within ps (drop n d) left (part r) }))
+          (goes P head d size short fours some)
+        where
+          A : BulkOut → Type 0
+          A q = Far total packets (landed q)

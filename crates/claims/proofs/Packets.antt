@@ -7,8 +7,8 @@ use mathlib.Core.List.{List, [], _∷_}
 use native.Mathlib.Omega.{arith}
 use lib.ListN.{length, take, drop}
 use borrow.Author.Tests.{eqb-true, ltb-false}
-use Rattle.rules.specs.Choice.{_=ᵇ_, _<ᵇ_, _and_, pick}
-use Rattle.rules.specs.Answers.{DONE, UNSOUND, UNCONFIGURED, WRONG-SIZE, HALTED, WAIT, NOT-IN-FOURS, SHORT-HEADER, BAD-TAG, UNKNOWN-MSGID, RESERVED, WRONG-LENGTH, TOO-LONG, OUT-OF-TURN, MISALIGNED}
+use Rattle.rules.specs.Choice.{_=ᵇ_, _<ᵇ_, pick}
+use Rattle.rules.specs.Answers.{DONE, UNCONFIGURED, WRONG-SIZE, HALTED, WAIT, NOT-IN-FOURS, SHORT-HEADER, BAD-TAG, UNKNOWN-MSGID, RESERVED, WRONG-LENGTH, TOO-LONG, OUT-OF-TURN, MISALIGNED}
 use Rattle.rules.proofs.Choice.{pick-all, decide-all, at-true, at-false, and-left, and-both, neb-ne, neb-eq}
 use Rattle.wire.specs.Header.{HEADER, D0, DEV-DEP-MSG-OUT, REQUEST-DEV-DEP-MSG-IN, MsgID, TransferSize, attributes, messageRules, requestRules, spareRules, triggerRules, readingRules, readMessage, readRequest, readTrigger, readHeader}
 use Rattle.wire.specs.Bytes.{number4}
@@ -111,19 +111,19 @@ accepts s (Trigger tag) k = some s (k .0) ∙ at-false _ _ _ (k .1)
 
 -- between transfers the line is free
 abbrev pub Facts : State → List ℕ → Outcome → Type 0
-Facts st s (Keep n) = (line : Line) → (outOf st .left ≡ 0 → line ≡ free) → heardPacket line s n ≡ nothing
+Facts st s (Keep n) = (line : Line) → (outOf st .transfer .left ≡ 0 → line ≡ free) → heardPacket line s n ≡ nothing
 Facts st s (Halt n) = (line : Line) → heardPacket line s n ≡ broken-off
-Facts st s (Data count) = (on (outOf st .ready) ≡ false) × (outOf st .left ≡ 0 → ⊥) × (count ≡ min (outOf st .left) (length s))
-Facts st s (Accept h count) = (on (outOf st .ready) ≡ false) × (outOf st .left ≡ 0) × (outOf st .held + dataLength h ≤ STORE) × (count ≡ min (dataLength h) (length s - HEADER)) × Accepts s h
+Facts st s (Data count) = (on (outOf st .message .ready) ≡ false) × (outOf st .transfer .left ≡ 0 → ⊥) × (count ≡ min (outOf st .transfer .left) (length s))
+Facts st s (Accept h count) = (on (outOf st .message .ready) ≡ false) × (outOf st .transfer .left ≡ 0) × (outOf st .message .held + dataLength h ≤ STORE) × (count ≡ min (dataLength h) (length s - HEADER)) × Accepts s h
 
-module _ (st : State) (s : List ℕ) (ready : on (outOf st .ready) ≡ false) where
-  more-facts : (outOf st .left ≡ 0 → ⊥) → Facts st s (more (packetSize st) (outOf st .left) s)
+module _ (st : State) (s : List ℕ) (ready : on (outOf st .message .ready) ≡ false) where
+  more-facts : (outOf st .transfer .left ≡ 0 → ⊥) → Facts st s (more (packetSize st) (outOf st .transfer .left) s)
   unfolding more
   more-facts e =
-      decide-all (Facts st s) Halt (moreRules (packetSize st) (outOf st .left) s) _ (halting s NOT-IN-FOURS refl refl refl, (halting s WRONG-LENGTH refl refl refl, (halting s MISALIGNED refl refl refl, tt)))
+      decide-all (Facts st s) Halt (moreRules (packetSize st) (outOf st .transfer .left) s) _ (halting s NOT-IN-FOURS refl refl refl, (halting s WRONG-LENGTH refl refl refl, (halting s MISALIGNED refl refl refl, tt)))
       (λ _. (ready, e, refl))
 
-  header-facts : outOf st .left ≡ 0 → (r : Read) → Reads s r → Facts st s (headerSays st s r)
+  header-facts : outOf st .transfer .left ≡ 0 → (r : Read) → Reads s r → Facts st s (headerSays st s r)
   unfolding headerSays
   header-facts e (Fault n) k = k
   header-facts e (Good h) k =
@@ -133,9 +133,9 @@ module _ (st : State) (s : List ℕ) (ready : on (outOf st .ready) ≡ false) wh
 pub outcome-facts : (st : State) (s : List ℕ) → Facts st s (outcome st s)
 unfolding outcome
 outcome-facts st s =
-    decide-all (Facts st s) Keep (outRules st (length s)) _ (keeps UNSOUND refl refl, (keeps UNCONFIGURED refl refl, (keeps WRONG-SIZE refl refl, (keeps HALTED refl refl, (keeps WAIT refl refl, tt)))))
+    decide-all (Facts st s) Keep (outRules st (length s)) _ (keeps UNCONFIGURED refl refl, (keeps WRONG-SIZE refl refl, (keeps HALTED refl refl, (keeps WAIT refl refl, tt))))
     (λ n.
-    let ready = n .1 .1 .1 .1 .0 in
+    let ready = n .1 .1 .1 .0 in
     pick-all (Facts st s) (isOpenOut (outOf st)) _ _ (λ e. more-facts st s ready (neb-ne _ _ e))
     (λ e. pick-all (Facts st s) (length s =ᵇ 0) _ _
     (λ f line k. ap (λ (l : Line). heardPacket l s DONE) (k (neb-eq _ _ e)) ∙ passing s free ∙ empty s (eqb-true _ _ f))

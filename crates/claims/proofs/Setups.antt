@@ -16,7 +16,7 @@ use Rattle.wire.specs.declared.types.Row.{Row}
 use Rattle.wire.specs.declared.types.Row.the-variants.{InitiateAbortBulkOut, CheckAbortBulkOutStatus, InitiateAbortBulkIn, CheckAbortBulkInStatus, InitiateClear, CheckClearStatus, GetCapabilities, IndicatorPulse, ReadStatusByte, RenControl, GoToLocal, LocalLockout, ClearFeature, SetFeature, GetStatus}
 use Rattle.wire.specs.declared.types.Setup.{Setup}
 use Rattle.wire.specs.declared.types.Setup.the-variants.{Configure, Asks, NoRow}
-use Rattle.port.specs.In.{Answer}
+use Rattle.port.specs.Answer.{Answer}
 use Rattle.claims.specs.Wire.{Heard, nothing, broken-off, wiped-out, heardSetup}
 
 -- a request that is answered SUCCESS
@@ -54,8 +54,7 @@ inRow (ClearFeature Out) a = broken-off
 inRow (ClearFeature In) a = nothing
 inRow (SetFeature Out) a = broken-off
 inRow (SetFeature In) a = nothing
-inRow (GetStatus Out) a = nothing
-inRow (GetStatus In) a = nothing
+inRow (GetStatus endpoint) a = nothing
 
 -- a packet that matches no row is refused
 abbrev pub Told : List ℕ → Setup → Type 0
@@ -152,10 +151,10 @@ module _ (s : List ℕ) where
       (λ _. pick-all (Told s) _ _ _ (λ e. device-row (eqb-true _ _ e)) (λ _. tt)))))
 
   -- an answer of 0 is heard by the bytes, any other not at all
-  pub heard-done : (a : Answer) → a .number ≡ 0 → heardSetup s a ≡ inBytes s a
+  pub heard-done : (a : Answer) → a .verdict .number ≡ 0 → heardSetup s a ≡ inBytes s a
   unfolding heardSetup
   heard-done a e = at-true _ _ _ (rw e)
 
-  pub heard-refused : (a : Answer) → (a .number =ᵇ 0) ≡ false → heardSetup s a ≡ nothing
+  pub heard-refused : (a : Answer) → (a .verdict .number =ᵇ 0) ≡ false → heardSetup s a ≡ nothing
   unfolding heardSetup
   heard-refused a e = at-false _ _ _ e

@@ -7,13 +7,14 @@ use mathlib.Core.List.{List, [], _∷_, _++_}
 use native.Mathlib.Omega.{arith}
 use lib.ListN.{getD, replicate}
 use Rattle.rules.specs.Choice.{_and_, pick}
-use Rattle.port.specs.Step.{Call, setup-packet, out-packet, take-into, bus-reset}
+use Rattle.rules.specs.Answers.{only}
+use Rattle.port.specs.Step.{Call, out-packet, take-into, bus-reset, setup-of}
 use Rattle.claims.specs.Wire.{Event, carried, heardPacket, heardSetup, heard, emptied, arrived, remembered, Legal}
 
 -- ** how the histories are written
 
 abbrev told : Call → ℕ → List ℕ → Event
-told c number bytes = record { call = c; answer = record { number = number; bytes = bytes; tells = 0 } }
+told c number bytes = record { call = c; answer = record { verdict = only number; bytes = bytes } }
 
 -- a command header of `size` data bytes and what follows it, accepted
 abbrev sent : ℕ → ℕ → ℕ → List ℕ → Event
@@ -35,20 +36,20 @@ faulty = told (out-packet (1 ∷ 2 ∷ 2 ∷ 0 ∷ 4 ∷ 0 ∷ 0 ∷ 0 ∷ 1 ∷
 
 -- CLEAR_FEATURE and SET_FEATURE on Bulk-OUT
 abbrev clear-feature : Event
-clear-feature = told (setup-packet (0x02 ∷ 1 ∷ 0 ∷ 0 ∷ 0x01 ∷ 0 ∷ 0 ∷ 0 ∷ []) 24) 0 []
+clear-feature = told (setup-of (0x02 ∷ 1 ∷ 0 ∷ 0 ∷ 0x01 ∷ 0 ∷ 0 ∷ 0 ∷ []) 24) 0 []
 
 abbrev set-feature : Event
-set-feature = told (setup-packet (0x02 ∷ 3 ∷ 0 ∷ 0 ∷ 0x01 ∷ 0 ∷ 0 ∷ 0 ∷ []) 24) 0 []
+set-feature = told (setup-of (0x02 ∷ 3 ∷ 0 ∷ 0 ∷ 0x01 ∷ 0 ∷ 0 ∷ 0 ∷ []) 24) 0 []
 
 -- INITIATE_ABORT_BULK_OUT of tag 1, INITIATE_CLEAR and SET_CONFIGURATION, granted
 abbrev abort : Event
-abort = told (setup-packet (0xA2 ∷ 1 ∷ 1 ∷ 0 ∷ 0x01 ∷ 0 ∷ 2 ∷ 0 ∷ []) 24) 0 (0x01 ∷ 1 ∷ [])
+abort = told (setup-of (0xA2 ∷ 1 ∷ 1 ∷ 0 ∷ 0x01 ∷ 0 ∷ 2 ∷ 0 ∷ []) 24) 0 (0x01 ∷ 1 ∷ [])
 
 abbrev clear : Event
-clear = told (setup-packet (0xA1 ∷ 5 ∷ 0 ∷ 0 ∷ 0 ∷ 0 ∷ 1 ∷ 0 ∷ []) 24) 0 (0x01 ∷ [])
+clear = told (setup-of (0xA1 ∷ 5 ∷ 0 ∷ 0 ∷ 0 ∷ 0 ∷ 1 ∷ 0 ∷ []) 24) 0 (0x01 ∷ [])
 
 abbrev set-configuration : Event
-set-configuration = told (setup-packet (0x00 ∷ 9 ∷ 1 ∷ 0 ∷ 0 ∷ 0 ∷ 0 ∷ 0 ∷ []) 24) 0 []
+set-configuration = told (setup-of (0x00 ∷ 9 ∷ 1 ∷ 0 ∷ 0 ∷ 0 ∷ 0 ∷ 0 ∷ []) 24) 0 []
 
 -- 60 bytes in two packets, of which the second has the last 8
 abbrev begins : Event

@@ -4,12 +4,12 @@
 use Prim.Native.Nat.{ℕ, _≤_}
 use mathlib.Core.Path.{_≡_}
 use mathlib.Core.Bool.{true}
-use mathlib.Core.List.{List, [], _∷_}
+use mathlib.Core.List.{List, _∷_}
 use lib.ListN.{length}
-use Rattle.rules.specs.Answers.{DONE, TELLS-NOTHING}
+use Rattle.rules.specs.Answers.{DONE, done}
 use Rattle.port.specs.Parts.{STORE, packetSize}
 use Rattle.port.specs.Device.{Device, isSound, powerOn}
-use Rattle.port.specs.Step.{Call, setup-packet, take-into, Stepping, step, run, after}
+use Rattle.port.specs.Step.{Call, take-into, setup-of, Stepping, step, run, after}
 use Rattle.port.specs.Live.{live}
 use Rattle.port.specs.Survivors.{survivors}
 use Rattle.port.specs.Lists.{ownList}
@@ -42,7 +42,7 @@ pub record Sent (does : Stepping) (u : Device) (pieces : List Piece) (calls : Li
 
 abbrev pub Arrives : Stepping → Device → List Piece → List Call → ℕ → Type 0
 Arrives does u pieces calls room =
-    Accepted (trace does u calls) × (does (after does u calls) (take-into room) .answer ≡ record { number = DONE; bytes = command pieces; tells = TELLS-NOTHING })
+    Accepted (trace does u calls) × (does (after does u calls) (take-into room) .answer ≡ record { verdict = done; bytes = command pieces })
 
 abbrev pub WholeCommand : Stepping → Type 0
 WholeCommand does = (u : Device) (pieces : List Piece) (calls : List Call) (room : ℕ)
@@ -53,31 +53,31 @@ WholeCommand does = (u : Device) (pieces : List Piece) (calls : List Call) (room
 
 abbrev pub Clean : Stepping → Device → ℕ → List Call → Type 0
 Clean does u control later =
-    let v = does u (setup-packet CHECK-CLEAR-STATUS control) .unit in
+    let v = does u (setup-of CHECK-CLEAR-STATUS control) .unit in
     let w = freshUnit (packetSize (u .state)) (survivors (u .state)) in
     (run does v later ≡ run step w later) × (live (after does v later) ≡ live (after step w later))
 
 abbrev pub CleanAfterFault : Stepping → Type 0
 CleanAfterFault does = (u : Device) (control : ℕ) (later : List Call) → Stored u → isSound u ≡ true
-    → does u (setup-packet CHECK-CLEAR-STATUS control) .answer ≡ success → Clean does u control later
+    → does u (setup-of CHECK-CLEAR-STATUS control) .answer ≡ success → Clean does u control later
 
 -- from power-on, with any size and whatever calls came before
 abbrev pub CleanAfterAnyFault : Stepping → Type 0
 CleanAfterAnyFault does = (setting : Setting) (before later : List Call) (control : ℕ)
-    → does (after does (powerOn setting .unit) before) (setup-packet CHECK-CLEAR-STATUS control) .answer ≡ success
+    → does (after does (powerOn setting .unit) before) (setup-of CHECK-CLEAR-STATUS control) .answer ≡ success
     → Clean does (after does (powerOn setting .unit) before) control later
 
 -- that SUCCESS is reached, after at most one poll, is the law ClearReached; and then: SUCCESS, CLEAR_FEATURE on 0x01, a whole command, taken
 abbrev pub CommandAfterClear : Stepping → Type 0
 CommandAfterClear does = (u : Device) (control : ℕ) (pieces : List Piece) (calls : List Call) (room : ℕ) → Stored u → isSound u ≡ true
-    → does u (setup-packet CHECK-CLEAR-STATUS control) .answer ≡ success
-    → let v = does (does u (setup-packet CHECK-CLEAR-STATUS control) .unit) (setup-packet CLEAR-FEATURE-OUT control) .unit in
+    → does u (setup-of CHECK-CLEAR-STATUS control) .answer ≡ success
+    → let v = does (does u (setup-of CHECK-CLEAR-STATUS control) .unit) (setup-of CLEAR-FEATURE-OUT control) .unit in
     Sent does v pieces calls → length (command pieces) ≤ room → Arrives does v pieces calls room
 
 -- ** "Is there a packet that the port has no rule for?" Every call on every unit, sound or not, has one answer, and its number is of that call's own list
 
 abbrev pub RuleForEvery : Stepping → Type 0
-RuleForEvery does = (u : Device) (c : Call) → OneOf (does u c .answer .number) (DONE ∷ ownList c)
+RuleForEvery does = (u : Device) (c : Call) → OneOf (does u c .answer .verdict .number) (DONE ∷ ownList c)
 
 -- ** all of it
 

@@ -2,13 +2,13 @@
 -- Assumes nothing.
 use Prim.Native.Nat.{ℕ, zero, suc, _-_, _/_, _%_, _≤_}
 use mathlib.Core.Path.{_≡_}
-use mathlib.Core.Bool.{Bool, true, false}
+use mathlib.Core.Bool.{true, false}
 use mathlib.Core.List.{List, [], _∷_, _++_}
 use lib.ListN.{length, take, drop, replicate}
 use Rattle.port.specs.Parts.{isOpenOut, unfinished, outOf, isConfigured}
-use Rattle.port.specs.In.{Answer}
+use Rattle.port.specs.Answer.{Answer}
 use Rattle.port.specs.Device.{Device, isSound}
-use Rattle.port.specs.Step.{Call, setup-packet, out-packet, in-poll, take-into, offer-reply, set-status, front-panel, bus-reset, bus-suspend}
+use Rattle.port.specs.Step.{Call, setup-packet, out-packet, take-into, bus-reset, quiet}
 use Rattle.port.specs.Breaks.{isBreak}
 use Rattle.claims.specs.Wire.{Event}
 
@@ -54,27 +54,19 @@ sending size (p ∷ q ∷ ps) = packetsOf size 0 p ++ sending size (q ∷ ps)
 
 abbrev pub packetsAmong : List Call → List (List ℕ)
 packetsAmong [] = []
-packetsAmong (setup-packet s room ∷ cs) = packetsAmong cs
+packetsAmong (setup-packet p ∷ cs) = packetsAmong cs
 packetsAmong (out-packet s ∷ cs) = s ∷ packetsAmong cs
-packetsAmong (in-poll room ∷ cs) = packetsAmong cs
 packetsAmong (take-into room ∷ cs) = packetsAmong cs
-packetsAmong (offer-reply bytes ∷ cs) = packetsAmong cs
-packetsAmong (set-status status ∷ cs) = packetsAmong cs
-packetsAmong (front-panel ∷ cs) = packetsAmong cs
 packetsAmong (bus-reset ∷ cs) = packetsAmong cs
-packetsAmong (bus-suspend ∷ cs) = packetsAmong cs
+packetsAmong (quiet q ∷ cs) = packetsAmong cs
 
 -- nothing is asked of the answer to a packet: that it is 0 is claimed
 abbrev pub Harmless : Call → Answer → Type 0
-Harmless (setup-packet s room) a = isBreak (setup-packet s room) a ≡ false
+Harmless (setup-packet p) a = isBreak (setup-packet p) a ≡ false
 Harmless (out-packet s) a = Unit {0}
-Harmless (in-poll room) a = Unit {0}
 Harmless (take-into room) a = ⊥
-Harmless (offer-reply bytes) a = Unit {0}
-Harmless (set-status status) a = Unit {0}
-Harmless front-panel a = Unit {0}
 Harmless bus-reset a = isBreak bus-reset a ≡ false
-Harmless bus-suspend a = Unit {0}
+Harmless (quiet q) a = Unit {0}
 
 abbrev pub Undisturbed : List Event → Type 0
 Undisturbed [] = Unit {0}
@@ -82,15 +74,11 @@ Undisturbed (e ∷ es) = Harmless (e .call) (e .answer) × Undisturbed es
 
 -- a packet is answered 0
 abbrev pub Taken : Call → Answer → Type 0
-Taken (setup-packet s room) a = Unit {0}
-Taken (out-packet s) a = a .number ≡ 0
-Taken (in-poll room) a = Unit {0}
+Taken (setup-packet p) a = Unit {0}
+Taken (out-packet s) a = a .verdict .number ≡ 0
 Taken (take-into room) a = Unit {0}
-Taken (offer-reply bytes) a = Unit {0}
-Taken (set-status status) a = Unit {0}
-Taken front-panel a = Unit {0}
 Taken bus-reset a = Unit {0}
-Taken bus-suspend a = Unit {0}
+Taken (quiet q) a = Unit {0}
 
 abbrev pub Accepted : List Event → Type 0
 Accepted [] = Unit {0}
@@ -101,6 +89,6 @@ pub record Waiting (u : Device) : Type 0 where
   pub sound : isSound u ≡ true
   pub configured : isConfigured (u .state) ≡ true
   pub running : outOf (u .state) .halted ≡ 0
-  pub unready : outOf (u .state) .ready ≡ 0
+  pub unready : outOf (u .state) .message .ready ≡ 0
   pub finished : unfinished (outOf (u .state)) ≡ false
   pub closed : isOpenOut (outOf (u .state)) ≡ false

@@ -4,7 +4,7 @@ use Prim.Native.Nat.{ℕ}
 use mathlib.Core.List.{List, [], _∷_}
 use Rattle.wire.specs.Setup.{CONTROL}
 use Rattle.port.specs.Device.{Device, withState, powerOn}
-use Rattle.port.specs.Step.{Call, setup-packet, step, after}
+use Rattle.port.specs.Step.{setup-of, step, after}
 use Rattle.port.specs.Survivors.{Survivors, surviving}
 
 -- the setup packets, as they go over the wire
@@ -19,7 +19,7 @@ CLEAR-FEATURE-OUT = 0x02 ∷ 1 ∷ 0 ∷ 0 ∷ 0x01 ∷ 0 ∷ 0 ∷ 0 ∷ []
 
 -- "a unit just configured", of packet size p, "with Bulk-OUT halted by the host"
 unfoldable pub halted : ℕ → Device
-halted p = after step (powerOn (record { packet = p }) .unit) (setup-packet SET-CONFIGURATION-1 CONTROL ∷ setup-packet SET-FEATURE-OUT CONTROL ∷ [])
+halted p = after step (powerOn (record { packet = p }) .unit) (setup-of SET-CONFIGURATION-1 CONTROL ∷ setup-of SET-FEATURE-OUT CONTROL ∷ [])
 
 -- a unit with these four, given as values, and all else its own
 abbrev pub resumed : Survivors → Device → Device

@@ -8,9 +8,9 @@ use mathlib.Core.List.{List, [], _∷_, _++_}
 use lib.ListN.{length, getD, take, drop}
 use Rattle.rules.specs.Choice.{_=ᵇ_, _<ᵇ_, _and_, pick, _⇒_∣_, first}
 use Rattle.port.specs.Parts.{on, isOpenOut, unfinished, outOf}
-use Rattle.port.specs.In.{Answer}
+use Rattle.port.specs.Answer.{Answer}
 use Rattle.port.specs.Device.{Device, heldOf}
-use Rattle.port.specs.Step.{Call, setup-packet, out-packet, in-poll, take-into, offer-reply, set-status, front-panel, bus-reset, bus-suspend, Stepping}
+use Rattle.port.specs.Step.{Call, setup-packet, out-packet, take-into, bus-reset, quiet, Stepping}
 
 pub record Event : Type 0 where
   pub call : Call
@@ -80,7 +80,7 @@ succeeding a h = pick (at (a .bytes) 0 =ᵇ 1) h nothing
 -- a setup packet that is answered 0: SET_CONFIGURATION; CLEAR_FEATURE and SET_FEATURE on endpoint 0x01; INITIATE_ABORT_BULK_OUT; INITIATE_CLEAR
 unfoldable pub heardSetup : List ℕ → Answer → Heard
 heardSetup s a =
-    pick (a .number =ᵇ 0)
+    pick (a .verdict .number =ᵇ 0)
     (first
     (at s 0 =ᵇ 0x00 ⇒ wiped-out ∣
     at s 0 =ᵇ 0x02 and at s 4 =ᵇ 0x01 ⇒ broken-off ∣
@@ -90,15 +90,11 @@ heardSetup s a =
     nothing
 
 unfoldable pub heard : Line → Call → Answer → Heard
-heard line (setup-packet s room) a = heardSetup s a
-heard line (out-packet s) a = heardPacket line s (a .number)
-heard line (in-poll room) a = nothing
-heard line (take-into room) a = pick (a .number =ᵇ 0) (handed-over (a .bytes)) nothing
-heard line (offer-reply bytes) a = nothing
-heard line (set-status status) a = nothing
-heard line front-panel a = nothing
-heard line bus-reset a = pick (a .number =ᵇ 0) wiped-out nothing
-heard line bus-suspend a = nothing
+heard line (setup-packet p) a = heardSetup (p .packet) a
+heard line (out-packet s) a = heardPacket line s (a .verdict .number)
+heard line (take-into room) a = pick (a .verdict .number =ᵇ 0) (handed-over (a .bytes)) nothing
+heard line bus-reset a = pick (a .verdict .number =ᵇ 0) wiped-out nothing
+heard line (quiet q) a = nothing
 
 -- ** the fold
 
@@ -141,7 +137,8 @@ Legal h (e ∷ es) = Allowed h (heard (h .line) (e .call) (e .answer)) × Legal 
 abbrev pub begun : Device → History
 begun u =
     let o = outOf (u .state) in
-    pick (on (o .ready)) (record { line = free; transfers = record { bytes = heldOf u; end = true } ∷ []; ended = true })
+    pick (on (o .message .ready)) (record { line = free; transfers = record { bytes = heldOf u; end = true } ∷ []; ended = true })
     (pick (isOpenOut o)
-    (record { line = under-way (o .left) (drop (o .held - o .got) (heldOf u)) (on (o .end)); transfers = record { bytes = take (o .held - o .got) (heldOf u); end = false } ∷ []; ended = false })
+    (let before = o .message .held - o .transfer .got in
+    record { line = under-way (o .transfer .left) (drop before (heldOf u)) (on (o .transfer .end)); transfers = record { bytes = take before (heldOf u); end = false } ∷ []; ended = false })
     (pick (unfinished o) (record { line = free; transfers = record { bytes = heldOf u; end = false } ∷ []; ended = false }) emptied))

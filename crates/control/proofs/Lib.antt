@@ -1,3 +1,3 @@
 -- Laws that belong to no one function.
-pub mod RowLaws
+pub mod Sides
 pub mod Serving

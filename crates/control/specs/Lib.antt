@@ -1,2 +1,2 @@
--- What a setup packet comes to, its bytes in the lent buffer.
-pub mod Served
+-- What an answered row comes to, its bytes in the lent buffer.
+pub mod Replied

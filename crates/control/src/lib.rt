@@ -1,5 +1,5 @@
-// Setup packets in code: each gives the answer and the state that its definition gives.
-pub mod features; // halts, by endpoint
-pub mod rows; // every row
-pub mod serve; // what a setup packet is answered
-pub mod types; // how an answer is handed on
+// Setup packets in code: what each comes to, what it is answered, and what that does to the state.
+pub mod effects; // what an answered row does
+pub mod rows; // what each row answers
+pub mod serve; // what a setup packet comes to
+pub mod types; // how an answered row is handed on

@@ -1,11 +1,9 @@
-// How code hands an answer on.
-use port::types::State;
+// What an answered row comes to but for its bytes, which the lent buffer has.
+use port::types::Effect;
+use rules::verdict::Verdict;
 
-// What a setup packet comes to but for its bytes, which the lent buffer has; `wipe` where it leaves the stores as at power-on.
-pub struct Served {
-    pub state: State,
-    pub number: u8,
-    pub tells: u8,
+pub struct Replied {
+    pub effect: Effect,
+    pub verdict: Verdict,
     pub len: usize,
-    pub wipe: bool,
 }

@@ -2,4 +2,6 @@
 pub mod Again
 pub mod Narrow
 pub mod Numbered
-pub mod Places
+pub mod Parted
+pub mod Pastes
+pub mod Puts

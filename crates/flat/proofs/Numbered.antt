@@ -1,12 +1,8 @@
--- A choice by a number, at the keys that a match tries and past them.
+-- A choice by a number that is none of the first three keys that a match tries.
 -- Assumes nothing.
-use mathlib.Core.Path.{_≡_, refl, sym, ap}
+use mathlib.Core.Path.{_≡_, refl}
 use Prim.Native.Nat.{ℕ, zero, suc}
 
-pub at-key : {A : Type 0} (f : ℕ → A) (k j : ℕ) → k ≡ j → f j ≡ f k
-at-key f k j e = ap f (sym e)
-
--- a number that is none of the first three
 pub past-three : {A : Type 0} (f : ℕ → A) (x : A) → ((j : ℕ) → x ≡ f (suc (suc (suc j)))) → (k : ℕ) → (k ≡ 0 → ⊥) → (k ≡ 1 → ⊥) → (k ≡ 2 → ⊥) → x ≡ f k
 past-three f x e zero a b c = absurd (a refl)
 past-three f x e (suc zero) a b c = absurd (b refl)

@@ -1,30 +1,94 @@
--- The unit as C holds it: its two stores, and behind them its state in 36 bytes. A number of two bytes has the low one first; the split and
--- the remote/local state are numbers, and the count of an abort stands behind them. include/tewennos.h names each place.
+-- The unit as C holds it: its two stores, and behind them the parts of its state, each in bytes of its own. A number of two bytes has the low one
+-- first; the split and the remote/local state are numbers. include/tewennos.h names each place, and tools/layout holds it to this file.
 -- Assumes nothing.
-use Prim.Native.Nat.{ℕ, zero, suc, _+_}
+use Prim.Native.Nat.{ℕ, zero, suc, _+_, _<_}
 use mathlib.Core.Bool.{Bool}
 use mathlib.Core.List.{List, [], _∷_, _++_}
 use lib.ListN.{take, drop}
-use Rattle.rules.specs.Choice.{_=ᵇ_, _≤ᵇ_, _or_, _&_, all, pick}
+use Rattle.rules.specs.Choice.{_=ᵇ_, _≤ᵇ_, _or_, _&_, all}
 use Rattle.wire.specs.Bytes.{byte, number2, bytes2}
-use Rattle.port.specs.Parts.{STORE}
+use Rattle.port.specs.Parts.{STORE, portOf, outOf, inOf}
 use Rattle.port.specs.Device.{Device}
 use Rattle.port.specs.declared.types.Port.{Port}
-use Rattle.port.specs.declared.types.BulkOut.{BulkOut}
-use Rattle.port.specs.declared.types.BulkIn.{BulkIn}
+use Rattle.port.specs.declared.types.OutMessage.{OutMessage}
+use Rattle.port.specs.declared.types.OutTransfer.{OutTransfer}
+use Rattle.port.specs.declared.types.InReply.{InReply}
+use Rattle.port.specs.declared.types.InTransfer.{InTransfer}
 use Rattle.port.specs.declared.types.Split.{Split}
 use Rattle.port.specs.declared.types.Split.the-variants.{None, AbortOut, AbortIn, Clear}
 use Rattle.port.specs.declared.types.Remote.{Remote}
 use Rattle.port.specs.declared.types.Remote.the-variants.{Locs, Rems, Lwls, Rwls}
 use Rattle.port.specs.declared.types.State.{State}
 
+-- ** how many bytes a part has; a flag, a tag and the remote/local state have one
+
+abbrev pub PORT : ℕ
+PORT = 5
+
+abbrev pub OUT-MESSAGE : ℕ
+OUT-MESSAGE = 3
+
+abbrev pub OUT-TRANSFER : ℕ
+OUT-TRANSFER = 5
+
+abbrev pub IN-REPLY : ℕ
+IN-REPLY = 4
+
+abbrev pub IN-TRANSFER : ℕ
+IN-TRANSFER = 10
+
+abbrev pub SPLIT : ℕ
+SPLIT = 4
+
+-- ** where it stands: each behind the one before it
+
+abbrev pub REPLY-AT : ℕ
+REPLY-AT = STORE
+
+abbrev pub PORT-AT : ℕ
+PORT-AT = REPLY-AT + STORE
+
+abbrev pub REMOTE-AT : ℕ
+REMOTE-AT = PORT-AT + PORT
+
+abbrev pub OUT-MESSAGE-AT : ℕ
+OUT-MESSAGE-AT = REMOTE-AT + 1
+
+abbrev pub OUT-HALTED-AT : ℕ
+OUT-HALTED-AT = OUT-MESSAGE-AT + OUT-MESSAGE
+
+abbrev pub OUT-TRANSFER-AT : ℕ
+OUT-TRANSFER-AT = OUT-HALTED-AT + 1
+
+abbrev pub OUT-RECENT-AT : ℕ
+OUT-RECENT-AT = OUT-TRANSFER-AT + OUT-TRANSFER
+
+abbrev pub IN-REPLY-AT : ℕ
+IN-REPLY-AT = OUT-RECENT-AT + 1
+
+abbrev pub IN-TRANSFER-AT : ℕ
+IN-TRANSFER-AT = IN-REPLY-AT + IN-REPLY
+
+abbrev pub IN-HALTED-AT : ℕ
+IN-HALTED-AT = IN-TRANSFER-AT + IN-TRANSFER
+
+abbrev pub IN-RECENT-AT : ℕ
+IN-RECENT-AT = IN-HALTED-AT + 1
+
+abbrev pub SPLIT-AT : ℕ
+SPLIT-AT = IN-RECENT-AT + 1
+
+-- the bytes of a unit
+abbrev pub UNIT : ℕ
+UNIT = SPLIT-AT + SPLIT
+
 -- ** the two enums as numbers
 
 unfoldable pub splitOf : ℕ → ℕ → Split
-splitOf zero count = None
-splitOf (suc zero) count = AbortOut count
-splitOf (suc (suc zero)) count = AbortIn count
-splitOf (suc (suc (suc k))) count = Clear
+splitOf count zero = None
+splitOf count (suc zero) = AbortOut count
+splitOf count (suc (suc zero)) = AbortIn count
+splitOf count (suc (suc (suc k))) = Clear
 
 unfoldable pub kindOf : Split → ℕ
 kindOf None = 0
@@ -50,86 +114,107 @@ placeOf Rems = 1
 placeOf Lwls = 2
 placeOf Rwls = 3
 
--- ** a state from its bytes
+-- ** a part from its bytes
 
-unfoldable pub portIn : List ℕ → Port
+abbrev pub portIn : List ℕ → Port
 portIn f = record { setting = record { packet = number2 f 0 }; configured = byte f 2; ren = byte f 3; status = byte f 4 }
 
-unfoldable pub outIn : List ℕ → BulkOut
-outIn f = record {
-  held = number2 f 6;
-  left = number2 f 8;
-  got = number2 f 10;
-  end = byte f 12;
-  ready = byte f 13;
-  halted = byte f 14;
-  recent = byte f 15;
+abbrev pub outMessageIn : List ℕ → OutMessage
+outMessageIn f = record { held = number2 f 0; ready = byte f 2 }
+
+abbrev pub outTransferIn : List ℕ → OutTransfer
+outTransferIn f = record { left = number2 f 0; got = number2 f 2; end = byte f 4 }
+
+abbrev pub inReplyIn : List ℕ → InReply
+inReplyIn f = record { at = number2 f 0; unsent = number2 f 2 }
+
+abbrev pub inTransferIn : List ℕ → InTransfer
+inTransferIn f = record {
+  asked = number2 f 0;
+  left = number2 f 2;
+  sent = number2 f 4;
+  phase = byte f 6;
+  tag = byte f 7;
+  enabled = byte f 8;
+  term = byte f 9;
 }
 
-unfoldable pub inIn : List ℕ → BulkIn
-inIn f = record {
-  at = number2 f 16;
-  unsent = number2 f 18;
-  asked = number2 f 20;
-  left = number2 f 22;
-  sent = number2 f 24;
-  enabled = byte f 26;
-  term = byte f 27;
-  phase = byte f 28;
-  tag = byte f 29;
-  halted = byte f 30;
-  recent = byte f 31;
-}
+-- behind the count and the kind stands a byte that is 0
+abbrev pub splitIn : List ℕ → Split
+splitIn f = splitOf (number2 f 0) (byte f 2)
 
-unfoldable pub stateIn : List ℕ → State
-stateIn f = record {
-  small = record { port = portIn f; bulkout = outIn f; bulkin = inIn f };
-  split = splitOf (byte f 32) (number2 f 34);
-  remote = remoteOf (byte f 33);
-}
-
--- ** the bytes of a state
+-- ** the bytes of a part
 
 abbrev pub portBytes : Port → List ℕ
-portBytes p = bytes2 (p .setting .packet) ++ p .configured ∷ p .ren ∷ p .status ∷ 0 ∷ []
+portBytes p = bytes2 (p .setting .packet) ++ p .configured ∷ p .ren ∷ p .status ∷ []
 
-abbrev pub outBytes : BulkOut → List ℕ
-outBytes o = bytes2 (o .held) ++ bytes2 (o .left) ++ bytes2 (o .got) ++ o .end ∷ o .ready ∷ o .halted ∷ o .recent ∷ []
+abbrev pub outMessageBytes : OutMessage → List ℕ
+outMessageBytes m = bytes2 (m .held) ++ m .ready ∷ []
 
-abbrev pub inBytes : BulkIn → List ℕ
-inBytes b =
-    bytes2 (b .at) ++ bytes2 (b .unsent) ++ bytes2 (b .asked) ++ bytes2 (b .left) ++ bytes2 (b .sent) ++
-    b .enabled ∷ b .term ∷ b .phase ∷ b .tag ∷ b .halted ∷ b .recent ∷ []
+abbrev pub outTransferBytes : OutTransfer → List ℕ
+outTransferBytes t = bytes2 (t .left) ++ bytes2 (t .got) ++ t .end ∷ []
 
-abbrev pub lastBytes : Split → Remote → List ℕ
-lastBytes split remote = kindOf split ∷ placeOf remote ∷ bytes2 (countOf split)
+abbrev pub inReplyBytes : InReply → List ℕ
+inReplyBytes r = bytes2 (r .at) ++ bytes2 (r .unsent)
 
-unfoldable pub bytesOf : State → List ℕ
-bytesOf st = portBytes (st .small .port) ++ outBytes (st .small .bulkout) ++ inBytes (st .small .bulkin) ++ lastBytes (st .split) (st .remote)
+abbrev pub inTransferBytes : InTransfer → List ℕ
+inTransferBytes t =
+    bytes2 (t .asked) ++ bytes2 (t .left) ++ bytes2 (t .sent) ++ t .phase ∷ t .tag ∷ t .enabled ∷ t .term ∷ []
 
--- the values that no state writes: the byte between, a fifth split or place, a count with no abort
-abbrev pub isAbort : ℕ → Bool
-isAbort kind = kind =ᵇ 1 or kind =ᵇ 2
+abbrev pub splitBytes : Split → List ℕ
+splitBytes s = bytes2 (countOf s) ++ kindOf s ∷ 0 ∷ []
 
-unfoldable pub isKept : List ℕ → Bool
-isKept f = all (byte f 5 =ᵇ 0 & byte f 32 ≤ᵇ 3 & byte f 33 ≤ᵇ 3 & (isAbort (byte f 32) or number2 f 34 =ᵇ 0) & [])
+-- ** a unit from its bytes, and its bytes
 
--- ** the unit
+-- `n` of its bytes, from `at` on
+abbrev pub part : ℕ → ℕ → List ℕ → List ℕ
+part at n u = take n (drop at u)
 
-abbrev pub messageBytes : List ℕ → List ℕ
-messageBytes u = take STORE u
-
-abbrev pub replyBytes : List ℕ → List ℕ
-replyBytes u = take STORE (drop STORE u)
-
-abbrev pub stateBytes : List ℕ → List ℕ
-stateBytes u = take 36 (drop 2048 u)
-
-abbrev pub isUnit : List ℕ → Bool
-isUnit u = isKept (stateBytes u)
+unfoldable pub stateIn : List ℕ → State
+stateIn u = record {
+  small = record {
+    port = portIn (part PORT-AT PORT u);
+    bulkout = record {
+      message = outMessageIn (part OUT-MESSAGE-AT OUT-MESSAGE u);
+      transfer = outTransferIn (part OUT-TRANSFER-AT OUT-TRANSFER u);
+      halted = byte u OUT-HALTED-AT;
+      recent = byte u OUT-RECENT-AT;
+    };
+    bulkin = record {
+      reply = inReplyIn (part IN-REPLY-AT IN-REPLY u);
+      transfer = inTransferIn (part IN-TRANSFER-AT IN-TRANSFER u);
+      halted = byte u IN-HALTED-AT;
+      recent = byte u IN-RECENT-AT;
+    };
+  };
+  split = splitIn (part SPLIT-AT SPLIT u);
+  remote = remoteOf (byte u REMOTE-AT);
+}
 
 unfoldable pub opened : List ℕ → Device
-opened u = record { message = messageBytes u; reply = replyBytes u; state = stateIn (stateBytes u) }
+opened u = record { message = part 0 STORE u; reply = part REPLY-AT STORE u; state = stateIn u }
+
+unfoldable pub bytesOf : State → List ℕ
+bytesOf st =
+    let o = outOf st in
+    let b = inOf st in
+    portBytes (portOf st) ++ placeOf (st .remote) ∷
+    outMessageBytes (o .message) ++ o .halted ∷ outTransferBytes (o .transfer) ++ o .recent ∷
+    inReplyBytes (b .reply) ++ inTransferBytes (b .transfer) ++ b .halted ∷ b .recent ∷ splitBytes (st .split)
 
 unfoldable pub shut : Device → List ℕ
 shut d = d .message ++ d .reply ++ bytesOf (d .state)
+
+-- the values that no unit writes: a fifth split or place, a count with no abort, the byte behind them
+abbrev pub isAbort : ℕ → Bool
+isAbort kind = kind =ᵇ 1 or kind =ᵇ 2
+
+abbrev pub isSplit : List ℕ → Bool
+isSplit f = all (byte f 2 ≤ᵇ 3 & byte f 3 =ᵇ 0 & (isAbort (byte f 2) or number2 f 0 =ᵇ 0) & [])
+
+unfoldable pub isUnit : List ℕ → Bool
+isUnit u = all (byte u REMOTE-AT ≤ᵇ 3 & isSplit (part SPLIT-AT SPLIT u) & [])
+
+-- every element is a byte, as the type of what C lends has it
+pub record Bytes (u : List ℕ) : Type 0 where
+  pub small : (i : ℕ) → byte u i < 256

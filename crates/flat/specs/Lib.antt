@@ -1,2 +1,3 @@
 -- The unit as C holds it.
 pub mod Flat
+pub mod Sides

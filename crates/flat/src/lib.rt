@@ -1,3 +1,4 @@
 // The unit in bytes, as C holds it.
-pub mod bytes; // a state from its bytes, and its bytes from a state
-pub mod unit; // the state behind the stores, and the stores wiped
+pub mod places; // how many bytes a part has, and where it stands
+pub mod put; // a part put in its place
+pub mod read; // a part from its bytes

@@ -1,56 +1,68 @@
 // Power-on, and the bus's calls, on the unit in bytes.
-use calls::bus::bus_gate;
-use calls::bus::suspended;
-use flat::unit::is_unit;
-use flat::unit::state_of;
-use flatcalls::after::make;
-use flatcalls::after::no_unit;
-use flatcalls::after::only;
-use flatcalls::after::settled;
+use flat::places::UNIT;
+use flat::put::put_port;
+use flat::put::put_remote;
+use flat::read::is_sound;
+use flat::read::port_of;
+use flatcalls::answer::numbered;
+use flatcalls::make::make;
 use flatcalls::types::Answer;
 use port::types::FULL_SPEED;
+use port::types::Remote;
 use port::types::Setting;
 use rules::DONE;
+use rules::UNSOUND;
 use rules::WRONG_SIZE;
 use soundness::sound::is_size;
-use state::given::given;
+use state::parts::with_ren;
 ghost use mathlib.Core.Path.{_≡_};
+ghost use mathlib.Core.List.{[]};
 ghost use Rattle.port.specs.Device.{powerOn};
-ghost use Rattle.port.specs.Calls.{busReset, suspend};
-ghost use Rattle.flatcalls.specs.Promise.{shutOf, onBytes, Leaves};
+ghost use Rattle.port.specs.Step.{quiet, bus-reset, bus-suspend};
+ghost use Rattle.flatcalls.specs.Promise.{IsNumber, shutOf, onBytes, Leaves};
 
-pub fn power_on(u: &mut [u8; 2084], packet: u16) -> Answer
+pub fn power_on(u: &mut [u8; UNIT], packet: u16) -> Answer
     ensures { λ r. ⌜ Leaves (shutOf (powerOn (record { packet = packet }))) (now (u .exit)) r ⌝ }
 {
     if is_size(packet) {
-        make(u, Setting { packet });
-        return only(DONE);
+        make(u, Setting { packet }, 0);
+        return numbered(DONE);
     }
-    make(u, Setting { packet: FULL_SPEED });
-    only(WRONG_SIZE)
+    make(u, Setting { packet: FULL_SPEED }, 0);
+    numbered(WRONG_SIZE)
 }
 
-pub fn bus_reset(u: &mut [u8; 2084]) -> Answer
-    ensures { λ r. ⌜ Leaves (onBytes busReset (now (u .entry))) (now (u .exit)) r ⌝ }
+// 1 for the bytes of no sound unit, or 0.
+fn bus_number(u: &[u8; UNIT]) -> u8
+    ensures { λ r. ⌜ IsNumber (now (u .entry)) [] r ⌝ }
 {
-    if is_unit(u) {
-        let st = state_of(u);
-        let number = bus_gate(st);
-        if number != 0 {
-            return settled(u, given(st, number));
-        }
-        make(u, st.small.port.setting);
-        return only(DONE);
+    if is_sound(u) {
+        return DONE;
     }
-    no_unit()
+    UNSOUND
 }
 
-pub fn suspend(u: &mut [u8; 2084]) -> Answer
-    ensures { λ r. ⌜ Leaves (onBytes suspend (now (u .entry))) (now (u .exit)) r ⌝ }
+pub fn bus_reset(u: &mut [u8; UNIT]) -> Answer
+    ensures { λ r. ⌜ Leaves (onBytes (now (u .entry)) bus-reset) (now (u .exit)) r ⌝ }
 {
-    if is_unit(u) {
-        let r = suspended(state_of(u));
-        return settled(u, r);
+    let number = bus_number(u);
+    if number != 0 {
+        return numbered(number);
     }
-    no_unit()
+    let p = port_of(u);
+    make(u, p.setting, 0);
+    numbered(DONE)
+}
+
+pub fn suspend(u: &mut [u8; UNIT]) -> Answer
+    ensures { λ r. ⌜ Leaves (onBytes (now (u .entry)) (quiet bus-suspend)) (now (u .exit)) r ⌝ }
+{
+    let number = bus_number(u);
+    if number != 0 {
+        return numbered(number);
+    }
+    let p = port_of(u);
+    put_port(u, with_ren(p, 0));
+    put_remote(u, Remote::Locs);
+    numbered(DONE)
 }

@@ -2,15 +2,32 @@
 -- Assumes nothing.
 use Prim.Native.Nat.{ℕ}
 use mathlib.Core.Path.{_≡_}
+use mathlib.Core.Bool.{Bool}
 use mathlib.Core.List.{List, []}
 use lib.ListN.{length, take, drop}
-use Rattle.rules.specs.Choice.{pick}
+use Rattle.rules.specs.Choice.{_and_, pick, first}
 use Rattle.rules.specs.Answers.{UNSOUND}
 use Rattle.wire.specs.Bytes.{into}
-use Rattle.port.specs.In.{number, Answer as Said}
+use Rattle.port.specs.Sound.{sound}
+use Rattle.port.specs.Answer.{number, Answer as Said}
 use Rattle.port.specs.Device.{Device, Result}
-use Rattle.flat.specs.Flat.{isUnit, opened, shut}
+use Rattle.port.specs.Step.{Call, step}
+use Rattle.flat.specs.Flat.{UNIT, stateIn, isUnit, opened, shut, Bytes}
 use Rattle.flatcalls.specs.declared.types.Answer.{Answer}
+
+-- whether bytes are those of a sound unit
+abbrev pub isSoundUnit : List ℕ → Bool
+isSoundUnit u = isUnit u and sound (stateIn u)
+
+-- the bytes that a call is lent, as their type has them
+pub record Lent (u : List ℕ) : Type 0 where
+  pub long : length u ≡ UNIT
+  pub small : Bytes u
+
+-- the number of the first rule that applies to a call on the unit that these bytes are, 1 for those of no sound one, or 0
+pub record IsNumber (u : List ℕ) (rules : List (Bool × ℕ)) (n : ℕ) : Type 0 where
+  pub number : n ≡ pick (isSoundUnit u) (first rules 0) UNSOUND
+  pub lent : Lent u
 
 -- a unit in bytes after a call, and the call's answer
 pub record Left : Type 0 where
@@ -20,37 +37,37 @@ pub record Left : Type 0 where
 abbrev pub shutOf : Result → Left
 shutOf q = record { unit = shut (q .unit); answer = q .answer }
 
--- the definitions' call on the unit that the bytes are; bytes that are no unit's are answered 1 and stay
-unfoldable pub onBytes : (Device → Result) → List ℕ → Left
-onBytes call u = pick (isUnit u) (shutOf (call (opened u))) (record { unit = u; answer = number UNSOUND })
+-- the bytes as they were, with a number
+abbrev pub keptOf : List ℕ → ℕ → Left
+keptOf u n = record { unit = u; answer = number n }
+
+-- the definitions' step on the unit that the bytes are; bytes that are no unit's are answered 1 and stay
+unfoldable pub onBytes : List ℕ → Call → Left
+onBytes u c = pick (isUnit u) (shutOf (step (opened u) c)) (keptOf u UNSOUND)
+
+-- an answer as C has it: its bytes are in the lent buffer
+abbrev pub answerOf : Said → Answer
+answerOf a = record { verdict = a .verdict; len = length (a .bytes) }
 
 pub record Leaves (q : Left) (u′ : List ℕ) (r : Answer) : Type 0 where
   pub unit : u′ ≡ q .unit
-  pub number : r .number ≡ q .answer .number
-  pub tells : r .tells ≡ q .answer .tells
-  pub len : r .len ≡ length (q .answer .bytes)
+  pub answer : r ≡ answerOf (q .answer)
 
 -- and the lent buffer held `b` before the call and holds `b′` after it
 pub record Fills (q : Left) (b b′ u′ : List ℕ) (r : Answer) : Type 0 where
   pub left : Leaves q u′ r
   pub buffer : b′ ≡ into (q .answer .bytes) b
 
--- an answer as C has it: its bytes are in the lent buffer
-abbrev pub answerOf : Said → Answer
-answerOf a = record { number = a .number; tells = a .tells; len = length (a .bytes) }
-
--- ** what it is for a unit's bytes and an answer to be the definitions' step `q`: the unit, the number, what it tells, its bytes, and the lent buffer
+-- ** what it is for a unit's bytes and an answer to be the definitions' step `q`: the unit, the verdict, its bytes, and the lent buffer
 
 pub record IsStep (q : Result) (u′ : List ℕ) (r : Answer) : Type 0 where
   pub unit : u′ ≡ shut (q .unit)
-  pub number : r .number ≡ q .answer .number
-  pub tells : r .tells ≡ q .answer .tells
+  pub verdict : r .verdict ≡ q .answer .verdict
   pub bytes : q .answer .bytes ≡ []
   pub len : r .len ≡ 0
 
 pub record IsStepInto (q : Result) (b b′ u′ : List ℕ) (r : Answer) : Type 0 where
   pub unit : u′ ≡ shut (q .unit)
-  pub number : r .number ≡ q .answer .number
-  pub tells : r .tells ≡ q .answer .tells
+  pub verdict : r .verdict ≡ q .answer .verdict
   pub bytes : take (r .len) b′ ≡ q .answer .bytes
   pub rest : drop (r .len) b′ ≡ drop (r .len) b

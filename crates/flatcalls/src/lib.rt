@@ -1,3 +1,4 @@
 // Calls on the unit in bytes: what they share.
-pub mod after; // what a call leaves of a unit, and its answer
+pub mod answer; // what a call answers, made
+pub mod make; // a unit made
 pub mod types; // what a call answers

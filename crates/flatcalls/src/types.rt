@@ -1,9 +1,9 @@
 // What a call answers.
+use rules::verdict::Verdict;
 
-// The number, what it tells, and how many bytes of the lent buffer are the answer's.
+// The verdict, and how many bytes of the lent buffer are the answer's.
 #[repr(C)]
 pub struct Answer {
-    pub number: u8,
-    pub tells: u8,
+    pub verdict: Verdict,
     pub len: usize,
 }

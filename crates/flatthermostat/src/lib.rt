@@ -1,76 +1,122 @@
-// The thermostat's calls, on the unit in bytes.
-use calls::thermostat::returned;
-use calls::thermostat::status_set;
-use flat::unit::is_unit;
-use flat::unit::state_of;
-use flatcalls::after::carried;
-use flatcalls::after::no_unit;
-use flatcalls::after::settled;
+// The thermostat's calls, on the unit in bytes: each is decided over the state, and writes no more than the part that it sets.
+use calls::thermostat::thermostat_gate;
+use flat::places::REPLY_AT;
+use flat::places::UNIT;
+use flat::put::put_in_reply;
+use flat::put::put_out_message;
+use flat::put::put_port;
+use flat::put::put_remote;
+use flat::read::is_sound;
+use flat::read::out_of;
+use flat::read::port_of;
+use flat::read::remote_of;
+use flat::read::state_of;
+use flatcalls::answer::numbered;
 use flatcalls::types::Answer;
-use messages::offer::offer_into;
-use messages::take::take_from;
-use port::types::Given;
-use port::types::State;
+use messages::offer::offer_gate;
+use messages::take::take_gate;
+use port::types::InReply;
+use remote::remote::by_panel;
+use rules::DONE;
+use rules::UNSOUND;
+use rules::verdict::only;
+use state::parts::no_message;
+use state::parts::with_status;
+use wire::copies::copy_in;
+use wire::numbers::widened;
 ghost use mathlib.Core.Path.{_≡_};
-ghost use Prim.Native.Nat.{ℕ, _≤_};
 ghost use lib.ListN.{length};
-ghost use Rattle.port.specs.Device.{heldIn};
-ghost use Rattle.port.specs.Given.{Hands};
-ghost use Rattle.port.specs.Calls.{taking, take-message, offer, setStatus, panel};
-ghost use Rattle.flat.specs.Flat.{messageBytes};
-ghost use Rattle.flatcalls.specs.Promise.{onBytes, Leaves, Fills};
+ghost use Rattle.port.specs.Calls.{thermostatRules, takeRules, offerRules};
+ghost use Rattle.port.specs.Step.{quiet, take-into, offer-reply, set-status, front-panel};
+ghost use Rattle.flat.specs.Flat.{stateIn};
+ghost use Rattle.flatcalls.specs.Promise.{IsNumber, onBytes, Leaves, Fills};
 
-// Where the reply begins.
-const REPLY_AT: usize = 1024;
-
-// A take from the message.
-fn take_of(u: &[u8], st: State, b: &mut [u8]) -> Given
-    requires { ⌜ 2084 ≤ length (now u) ⌝ }
-    ensures { λ r. ⌜ Hands (taking st (heldIn (st .small .bulkout) (messageBytes (now (u .entry)))) (length (now (b .entry)))) r (now (b .entry)) (now (b .exit)) ⌝ }
+// The first rule that applies to a take into `room` bytes, or 0.
+fn take_number(u: &[u8; UNIT], room: usize) -> u8
+    ensures { λ r. ⌜ IsNumber (now (u .entry)) (takeRules (stateIn (now (u .entry))) room) r ⌝ }
 {
-    let a: usize = 0;
-    let e = REPLY_AT;
-    take_from(&u[a..e], st, b)
+    if is_sound(u) {
+        return take_gate(state_of(u), room);
+    }
+    UNSOUND
 }
 
-pub fn take(u: &mut [u8; 2084], b: &mut [u8]) -> Answer
-    ensures { λ r. ⌜ Fills (onBytes (λ d. take-message d (length (now (b .entry)))) (now (u .entry))) (now (b .entry)) (now (b .exit)) (now (u .exit)) r ⌝ }
+pub fn take(u: &mut [u8; UNIT], b: &mut [u8]) -> Answer
+    ensures { λ r. ⌜ Fills (onBytes (now (u .entry)) (take-into (length (now (b .entry))))) (now (b .entry)) (now (b .exit)) (now (u .exit)) r ⌝ }
 {
-    if is_unit(u) {
-        let st = state_of(u);
-        let given = take_of(u, st, b);
-        return settled(u, given);
+    let number = take_number(u, b.len());
+    if number != 0 {
+        return numbered(number);
     }
-    no_unit()
+    let o = out_of(u);
+    let len = widened(o.message.held);
+    copy_in(b, 0, u, 0, len);
+    put_out_message(u, no_message());
+    Answer {
+        verdict: only(DONE),
+        len,
+    }
 }
 
-pub fn offer(u: &mut [u8; 2084], bytes: &[u8]) -> Answer
-    ensures { λ r. ⌜ Leaves (onBytes (λ d. offer d (now (bytes .entry))) (now (u .entry))) (now (u .exit)) r ⌝ }
+// The first rule that applies to an offer of `n` bytes, or 0.
+fn offer_number(u: &[u8; UNIT], n: usize) -> u8
+    ensures { λ r. ⌜ IsNumber (now (u .entry)) (offerRules (stateIn (now (u .entry))) n) r ⌝ }
 {
-    if is_unit(u) {
-        let st = state_of(u);
-        let plan = offer_into(u, REPLY_AT, st, bytes);
-        return carried(u, plan);
+    if is_sound(u) {
+        return offer_gate(state_of(u), n);
     }
-    no_unit()
+    UNSOUND
 }
 
-pub fn set_status(u: &mut [u8; 2084], status: u8) -> Answer
-    ensures { λ r. ⌜ Leaves (onBytes (λ d. setStatus d status) (now (u .entry))) (now (u .exit)) r ⌝ }
+pub fn offer(u: &mut [u8; UNIT], bytes: &[u8]) -> Answer
+    ensures { λ r. ⌜ Leaves (onBytes (now (u .entry)) (quiet (offer-reply (now (bytes .entry))))) (now (u .exit)) r ⌝ }
 {
-    if is_unit(u) {
-        let given = status_set(state_of(u), status);
-        return settled(u, given);
+    let n = bytes.len();
+    let number = offer_number(u, n);
+    if number != 0 {
+        return numbered(number);
     }
-    no_unit()
+    copy_in(u, REPLY_AT, bytes, 0, n);
+    put_in_reply(
+        u,
+        InReply {
+            at: 0,
+            unsent: n as u16,
+        },
+    );
+    numbered(DONE)
 }
 
-pub fn panel(u: &mut [u8; 2084]) -> Answer
-    ensures { λ r. ⌜ Leaves (onBytes panel (now (u .entry))) (now (u .exit)) r ⌝ }
+// The first rule that applies to the calls below, or 0.
+fn thermostat_number(u: &[u8; UNIT]) -> u8
+    ensures { λ r. ⌜ IsNumber (now (u .entry)) (thermostatRules (stateIn (now (u .entry)))) r ⌝ }
 {
-    if is_unit(u) {
-        let given = returned(state_of(u));
-        return settled(u, given);
+    if is_sound(u) {
+        return thermostat_gate(state_of(u));
     }
-    no_unit()
+    UNSOUND
+}
+
+pub fn set_status(u: &mut [u8; UNIT], status: u8) -> Answer
+    ensures { λ r. ⌜ Leaves (onBytes (now (u .entry)) (quiet (set-status status))) (now (u .exit)) r ⌝ }
+{
+    let number = thermostat_number(u);
+    if number != 0 {
+        return numbered(number);
+    }
+    let p = port_of(u);
+    put_port(u, with_status(p, status));
+    numbered(DONE)
+}
+
+pub fn panel(u: &mut [u8; UNIT]) -> Answer
+    ensures { λ r. ⌜ Leaves (onBytes (now (u .entry)) (quiet front-panel)) (now (u .exit)) r ⌝ }
+{
+    let number = thermostat_number(u);
+    if number != 0 {
+        return numbered(number);
+    }
+    let r = remote_of(u);
+    put_remote(u, by_panel(r));
+    numbered(DONE)
 }

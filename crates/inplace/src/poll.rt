@@ -4,13 +4,13 @@ use polls::poll::poll_step;
 use port::types::State;
 use unit::types::Unit;
 ghost use lib.ListN.{length};
-ghost use Rattle.port.specs.Calls.{bulkIn};
+ghost use Rattle.port.specs.Step.{in-poll, quiet, step};
 ghost use Rattle.unit.specs.Promise.{deviceOf};
 ghost use Rattle.inplace.specs.InPlace.{Sends};
 
 // A poll, on a unit that is altered where it stands; its packet goes into the lent buffer `b`.
 pub fn poll_in_place(u: &mut Unit, b: &mut [u8]) -> Sent
-    ensures { λ r. ⌜ Sends (bulkIn (deviceOf (now (u .entry))) (length (now (b .entry)))) (now (b .entry)) (now (b .exit)) (now (u .exit)) r ⌝ }
+    ensures { λ r. ⌜ Sends (step (deviceOf (now (u .entry))) (quiet (in-poll (length (now (b .entry)))))) (now (b .entry)) (now (b .exit)) (now (u .exit)) r ⌝ }
 {
     let st = State {
         small: u.small,
@@ -22,7 +22,7 @@ pub fn poll_in_place(u: &mut Unit, b: &mut [u8]) -> Sent
     u.split = given.state.split;
     u.remote = given.state.remote;
     Sent {
-        number: given.number,
+        verdict: given.verdict,
         len: given.len,
     }
 }

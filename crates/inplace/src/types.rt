@@ -1,15 +1,9 @@
-// What the calls hand back that leave the unit where it stands.
+// What a poll hands back that leaves the unit where it stands.
+use rules::verdict::Verdict;
 
-// The number of a packet, and what it tells.
-#[repr(C)]
-pub struct Answer {
-    pub number: u8,
-    pub tells: u8,
-}
-
-// The number of a poll, and how many bytes of the lent buffer are its packet. A poll tells nothing.
+// Its verdict, and how many bytes of the lent buffer are its packet.
 #[repr(C)]
 pub struct Sent {
-    pub number: u8,
+    pub verdict: Verdict,
     pub len: usize,
 }

@@ -4,55 +4,56 @@ use port::types::Given;
 use port::types::State;
 use rules::DONE;
 use rules::NOT_NOW;
-use rules::TELLS_NOTHING;
 use rules::UNCONFIGURED;
 use rules::UNSOUND;
 use rules::WRONG_SIZE;
+use rules::verdict::only;
 use soundness::sound::sound;
 use state::given::given;
+use state::parts::holding;
+use state::parts::no_message;
 use state::parts::with_out;
 use wire::copies::copy_in;
 use wire::numbers::widened;
 ghost use mathlib.Core.Path.{_≡_};
+ghost use mathlib.Core.Bool.{true};
 ghost use Prim.Native.Nat.{ℕ, _≤_};
 ghost use lib.ListN.{length};
-ghost use Rattle.rules.specs.Choice.{first};
+ghost use Rattle.rules.specs.Choice.{pick, first};
+ghost use Rattle.port.specs.Sound.{sound};
+ghost use Rattle.port.specs.Answer.{refuse};
 ghost use Rattle.port.specs.Device.{heldIn};
 ghost use Rattle.port.specs.Calls.{takeRules, released, taking};
 ghost use Rattle.port.specs.Given.{Hands};
 
-// The first of 1, 2, 16 and 3 that applies to a take into `room` bytes, or 0.
-fn take_gate(st: State, room: usize) -> u8
+// The first of 2, 16 and 3 that applies to a take into `room` bytes, or 0.
+pub fn take_gate(st: State, room: usize) -> u8
     ensures { λ r. ⌜ r ≡ first (takeRules st room) 0 ⌝ }
 {
     let o = st.small.bulkout;
-    if sound(st) {
-        if st.small.port.configured != 1 {
-            return UNCONFIGURED;
-        }
-        if o.ready != 1 {
-            return NOT_NOW;
-        }
-        if room < widened(o.held) {
-            return WRONG_SIZE;
-        }
-        return DONE;
+    if st.small.port.configured != 1 {
+        return UNCONFIGURED;
     }
-    UNSOUND
+    if o.message.ready != 1 {
+        return NOT_NOW;
+    }
+    if room < widened(o.message.held) {
+        return WRONG_SIZE;
+    }
+    DONE
 }
 
-fn released(o: BulkOut) -> BulkOut
+// The message is let go.
+pub fn released(o: BulkOut) -> BulkOut
     ensures { λ r. ⌜ r ≡ released o ⌝ }
 {
-    let mut next = o;
-    next.held = 0;
-    next.ready = 0;
-    next
+    let transfer = o.transfer;
+    holding(o, no_message(), transfer)
 }
 
 // From a store that begins with the message.
-pub fn take_from(message: &[u8], st: State, b: &mut [u8]) -> Given
-    requires { ⌜ 1024 ≤ length (now message) ⌝ }
+fn take_from(message: &[u8], st: State, b: &mut [u8]) -> Given
+    requires { ⌜ (1024 ≤ length (now message)) × (sound st ≡ true) ⌝ }
     ensures { λ r. ⌜ Hands (taking st (heldIn (st .small .bulkout) (now (message .entry))) (length (now (b .entry)))) r (now (b .entry)) (now (b .exit)) ⌝ }
 {
     let number = take_gate(st, b.len());
@@ -60,19 +61,20 @@ pub fn take_from(message: &[u8], st: State, b: &mut [u8]) -> Given
         return given(st, number);
     }
     let o = st.small.bulkout;
-    let len = widened(o.held);
+    let len = widened(o.message.held);
     copy_in(b, 0, message, 0, len);
-    let state = with_out(st, released(o));
     Given {
-        state,
-        number: DONE,
-        tells: TELLS_NOTHING,
+        state: with_out(st, released(o)),
+        verdict: only(DONE),
         len,
     }
 }
 
 pub fn take_step(message: &[u8; 1024], st: State, b: &mut [u8]) -> Given
-    ensures { λ r. ⌜ Hands (taking st (heldIn (st .small .bulkout) (now (message .entry))) (length (now (b .entry)))) r (now (b .entry)) (now (b .exit)) ⌝ }
+    ensures { λ r. ⌜ Hands (pick (sound st) (taking st (heldIn (st .small .bulkout) (now (message .entry))) (length (now (b .entry)))) (refuse st 1)) r (now (b .entry)) (now (b .exit)) ⌝ }
 {
-    take_from(message, st, b)
+    if sound(st) {
+        return take_from(message, st, b);
+    }
+    given(st, UNSOUND)
 }

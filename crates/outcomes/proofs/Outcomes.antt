@@ -33,10 +33,10 @@ module _ (p left : ℕ) (s : List ℕ) (number : ℕ) (fours : length s % 4 ≡ 
 module _ (st : State) (s : List ℕ) (h : Header) where
   -- in turn
   module _ (turn : outOfTurn (outOf st) (inOf st) h ≡ false) where
-    pub header-long : STORE < outOf st .held + dataLength h → 12 ≡ first (headerRules st s h) 0
+    pub header-long : STORE < outOf st .message .held + dataLength h → 12 ≡ first (headerRules st s h) 0
     header-long e = pick-false _ _ _ _ turn (pick-true _ _ _ _ (lt-ltb _ _ e) refl)
 
-    pub header-fits : (number : ℕ) → outOf st .held + dataLength h ≤ STORE → number ≡ first (fitRules (packetSize st) s HEADER (dataLength h)) 0 → number ≡ first (headerRules st s h) 0
+    pub header-fits : (number : ℕ) → outOf st .message .held + dataLength h ≤ STORE → number ≡ first (fitRules (packetSize st) s HEADER (dataLength h)) 0 → number ≡ first (headerRules st s h) 0
     header-fits number e f = pick-false _ _ _ _ turn (pick-false _ _ _ _ (le-ltb _ _ e) f)
 
   module _ (number : ℕ) (fault : number ≡ first (headerRules st s h) 0) where
@@ -56,14 +56,14 @@ module _ (st : State) (s : List ℕ) (number : ℕ) (gate : number ≡ first (ou
   outcome-kept e = refuses Keep (outRules st (length s)) _ number tt gate e
 
   module _ (passed : number ≡ 0) where
-    pub outcome-more : (r : Outcome) → (outOf st .left ≡ 0 → ⊥) → r ≡ more (packetSize st) (outOf st .left) s → r ≡ outcome st s
+    pub outcome-more : (r : Outcome) → (outOf st .transfer .left ≡ 0 → ⊥) → r ≡ more (packetSize st) (outOf st .transfer .left) s → r ≡ outcome st s
     unfolding outcome
     outcome-more r e f = pick-true r _ _ _ (ne-neb _ 0 e) f ∙ passes Keep (outRules st (length s)) _ number tt gate passed
 
-    pub outcome-empty : outOf st .left ≡ 0 → length s ≡ 0 → Keep 0 ≡ outcome st s
+    pub outcome-empty : outOf st .transfer .left ≡ 0 → length s ≡ 0 → Keep 0 ≡ outcome st s
     unfolding outcome
     outcome-empty e f = pick-false _ _ _ _ (eq-neb _ 0 e) (pick-true _ _ _ _ (eq-eqb _ 0 f) refl) ∙ passes Keep (outRules st (length s)) _ number tt gate passed
 
-    pub outcome-header : (r : Outcome) → outOf st .left ≡ 0 → (length s ≡ 0 → ⊥) → r ≡ headerSays st s (readHeader s) → r ≡ outcome st s
+    pub outcome-header : (r : Outcome) → outOf st .transfer .left ≡ 0 → (length s ≡ 0 → ⊥) → r ≡ headerSays st s (readHeader s) → r ≡ outcome st s
     unfolding outcome
     outcome-header r e f g = pick-false r _ _ _ (eq-neb _ 0 e) (pick-false r _ _ _ (ne-eqb _ 0 f) g) ∙ passes Keep (outRules st (length s)) _ number tt gate passed

@@ -12,11 +12,9 @@ use rules::NOT_IN_FOURS;
 use rules::OUT_OF_TURN;
 use rules::TOO_LONG;
 use rules::UNCONFIGURED;
-use rules::UNSOUND;
 use rules::WAIT;
 use rules::WRONG_LENGTH;
 use rules::WRONG_SIZE;
-use soundness::sound::sound;
 use wire::header::HEADER;
 use wire::header::read_header;
 use wire::numbers::all_zero;
@@ -90,10 +88,10 @@ fn more(p: usize, left: u16, s: &[u8]) -> Outcome
 fn unfinished(o: BulkOut) -> bool
     ensures { λ r. ⌜ r ≡ unfinished o ⌝ }
 {
-    if o.ready != 0 {
+    if o.message.ready != 0 {
         return false;
     }
-    if o.held == 0 {
+    if o.message.held == 0 {
         return false;
     }
     true
@@ -102,7 +100,7 @@ fn unfinished(o: BulkOut) -> bool
 fn request_out_of_turn(o: BulkOut, b: BulkIn) -> bool
     ensures { λ r. ⌜ r ≡ requestOutOfTurn o b ⌝ }
 {
-    if b.phase != CLOSED {
+    if b.transfer.phase != CLOSED {
         return true;
     }
     unfinished(o)
@@ -161,7 +159,7 @@ fn header_fault(st: State, s: &[u8], h: Header) -> u8
     if MOST < size {
         return TOO_LONG;
     }
-    let held = o.held as u32;
+    let held = o.message.held as u32;
     if MOST < held + size {
         return TOO_LONG;
     }
@@ -197,30 +195,27 @@ fn header_says(st: State, s: &[u8]) -> Outcome
     Outcome::Accept { header, count }
 }
 
-// The first of 1 to 5 that applies to a packet of n bytes, or 0.
+// The first of 2 to 5 that applies to a packet of n bytes, or 0.
 fn out_gate(st: State, n: usize) -> u8
     ensures { λ r. ⌜ r ≡ first (outRules st n) 0 ⌝ }
 {
     let o = st.small.bulkout;
-    if sound(st) {
-        if st.small.port.configured != 1 {
-            return UNCONFIGURED;
-        }
-        if widened(st.small.port.setting.packet) < n {
-            return WRONG_SIZE;
-        }
-        if o.halted == 1 {
-            return HALTED;
-        }
-        if o.ready == 1 {
-            return WAIT;
-        }
-        return DONE;
+    if st.small.port.configured != 1 {
+        return UNCONFIGURED;
     }
-    UNSOUND
+    if widened(st.small.port.setting.packet) < n {
+        return WRONG_SIZE;
+    }
+    if o.halted == 1 {
+        return HALTED;
+    }
+    if o.message.ready == 1 {
+        return WAIT;
+    }
+    DONE
 }
 
-// What a packet comes to.
+// What a packet comes to on a sound unit.
 pub fn outcome(st: State, s: &[u8]) -> Outcome
     ensures { λ r. ⌜ r ≡ outcome st (now (s .entry)) ⌝ }
 {
@@ -229,7 +224,7 @@ pub fn outcome(st: State, s: &[u8]) -> Outcome
         return Outcome::Keep { number };
     }
     let o = st.small.bulkout;
-    let left = o.left;
+    let left = o.transfer.left;
     if left != 0 {
         return more(widened(st.small.port.setting.packet), left, s);
     }

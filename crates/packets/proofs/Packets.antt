@@ -1,57 +1,47 @@
--- What a Bulk-OUT packet leaves: a law for each way that the code takes, and that every outcome can be carried out.
+-- Every outcome of a packet on a sound unit can be carried out: its data can be absorbed, stands in the packet and has room behind what is held.
 -- Assumes nothing.
 use Prim.Native.Nat.{ℕ, _+_, _-_, _≤_, min}
-use mathlib.Core.Path.{_≡_, refl}
-use mathlib.Core.Bool.{false}
+use mathlib.Core.Path.{_≡_, refl, sym, ap, _∙_, subst}
+use mathlib.Core.Bool.{true}
 use mathlib.Core.List.{List}
 use mathlib.Core.Logic.{inl, inr}
 use native.Mathlib.Omega.{arith}
 use lib.ListN.{length}
 use lib.Seq.{paste, paste-zero}
-use borrow.Author.Tests.{eq-eqb, ne-eqb, ltb-false}
+use borrow.Author.Tests.{ltb-false}
 use Rattle.rules.specs.Choice.{_=ᵇ_, pick, decide}
-use Rattle.rules.proofs.Choice.{neb-ne, not-no, pick-all, decide-all}
-use Rattle.wire.specs.Header.{OFF, HEADER, readHeader}
+use Rattle.rules.proofs.Choice.{neb-ne, pick-all, decide-all}
+use Rattle.wire.specs.Header.{HEADER, readHeader}
 use Rattle.wire.specs.declared.types.Header.{Header}
 use Rattle.wire.specs.declared.types.Header.the-variants.{Message, Request, Trigger}
 use Rattle.wire.specs.declared.types.Read.{Read}
 use Rattle.wire.specs.declared.types.Read.the-variants.{Good, Fault}
 use Rattle.wire.proofs.Lawful.{Reads, header-lawful}
 use Rattle.port.specs.Parts.{STORE, isOpenOut, packetSize, outOf}
-use Rattle.port.specs.Out.{moreRules, more, dataLength, headerRules, headerSays, outRules, outcome, absorbed, accepted, planned, outPlan, CanAbsorb, CanAccept, Can, Room}
+use Rattle.port.specs.Sound.{sound}
+use Rattle.port.specs.Out.{moreRules, more, dataLength, headerRules, headerSays, outRules, outcome, accepted, planned, CanAbsorb, CanAccept, Can, Room}
 use Rattle.port.proofs.Soundness.{OutSound, sound-of}
 use Rattle.port.specs.declared.types.State.{State}
-use Rattle.port.specs.declared.types.BulkOut.{BulkOut}
+use Rattle.port.specs.declared.types.Plan.{Plan}
 use Rattle.port.specs.declared.types.Outcome.{Outcome}
 use Rattle.port.specs.declared.types.Outcome.the-variants.{Keep, Halt, Data, Accept}
-
--- ** what a packet leaves
-
-module _ (o : BulkOut) (count left : ℕ) (less : left ≡ o .left - count) where
-  pub absorbed-whole : o .left ≡ count → _≡_ {A = BulkOut} (record { held = o .held + count; left = left; got = 0; end = OFF; ready = o .end; halted = o .halted; recent = o .recent }) (absorbed o count)
-  unfolding absorbed pick
-  absorbed-whole e = rw (eq-eqb (o .left) count e, less)
-
-  pub absorbed-part : (o .left ≡ count → ⊥) → _≡_ {A = BulkOut} (record { held = o .held + count; left = left; got = o .got + count; end = o .end; ready = OFF; halted = o .halted; recent = o .recent }) (absorbed o count)
-  unfolding absorbed pick
-  absorbed-part e = rw (ne-eqb (o .left) count e, less)
 
 -- ** every outcome can be carried out
 
 module _ (st : State) (s : List ℕ) where
   -- what is known of the data of an outcome: it can be absorbed, and it stands in the packet
-  Carried : Outcome → Type 0
+  unfoldable pub Carried : Outcome → Type 0
   Carried (Keep number) = Unit {0}
   Carried (Halt number) = Unit {0}
   Carried (Data count) = CanAbsorb (outOf st) count × (count ≤ length s)
   Carried (Accept h count) = CanAccept st h count × (count ≤ length s - HEADER) × (HEADER ≤ length s)
 
-  more-carried : OutSound (outOf st) → (outOf st .left ≡ 0 → ⊥) → Carried (more (packetSize st) (outOf st .left) s)
+  more-carried : OutSound (outOf st) → (outOf st .transfer .left ≡ 0 → ⊥) → Carried (more (packetSize st) (outOf st .transfer .left) s)
   unfolding more Carried
-  more-carried (inl w) e = let r = w .1 .room in let g = w .1 .within in decide-all Carried Halt (moreRules (packetSize st) (outOf st .left) s) _ (tt, (tt, (tt, tt))) (λ _. ((omega arith, omega arith, omega arith), omega arith))
+  more-carried (inl w) e = let r = w .1 .room in let g = w .1 .within in decide-all Carried Halt (moreRules (packetSize st) (outOf st .transfer .left) s) _ (tt, (tt, (tt, tt))) (λ _. ((omega arith, omega arith, omega arith), omega arith))
   more-carried (inr w) e = absurd (e (w .0))
 
-  accept-carried : (h : Header) → outOf st .held + dataLength h ≤ STORE → HEADER ≤ length s → Carried (Accept h (min (dataLength h) (length s - HEADER)))
+  accept-carried : (h : Header) → outOf st .message .held + dataLength h ≤ STORE → HEADER ≤ length s → Carried (Accept h (min (dataLength h) (length s - HEADER)))
   unfolding Carried
   accept-carried (Message tag size end) e l = ((omega arith, omega arith, omega arith), omega arith, l)
   accept-carried (Request tag size enabled term) e l = (tt, omega arith, l)
@@ -62,11 +52,11 @@ module _ (st : State) (s : List ℕ) where
   header-carried (Fault number) h = tt
   header-carried (Good h) l = decide-all Carried Halt (headerRules st s h) _ (tt, (tt, (tt, (tt, tt)))) (λ n. accept-carried h (ltb-false STORE _ (n .1 .0)) (l .0))
 
-  outcome-carried : Carried (outcome st s)
+  pub outcome-carried : sound st ≡ true → Carried (outcome st s)
   unfolding outcome Carried
-  outcome-carried =
-      decide-all Carried Keep (outRules st (length s)) _ (tt, (tt, (tt, (tt, (tt, tt)))))
-      (λ n. pick-all Carried (isOpenOut (outOf st)) _ _ (λ e. more-carried (sound-of st (not-no _ (n .0)) .out) (neb-ne _ _ e))
+  outcome-carried h =
+      decide-all Carried Keep (outRules st (length s)) _ (tt, (tt, (tt, (tt, tt))))
+      (λ _. pick-all Carried (isOpenOut (outOf st)) _ _ (λ e. more-carried (sound-of st h .out) (neb-ne _ _ e))
       (λ _. pick-all Carried (length s =ᵇ 0) _ _ (λ _. tt) (λ _. header-carried (readHeader s) (header-lawful s))))
 
   can : (x : Outcome) → Carried x → Can st x
@@ -76,8 +66,8 @@ module _ (st : State) (s : List ℕ) where
   can (Data count) h = h .0
   can (Accept h count) k = k .0
 
-  pub outcome-can : Can st (outcome st s)
-  outcome-can = can (outcome st s) outcome-carried
+  pub outcome-can : sound st ≡ true → Can st (outcome st s)
+  outcome-can h = can (outcome st s) (outcome-carried h)
 
   room : (x : Outcome) → Carried x → Room st s (planned st x)
   unfolding planned Carried accepted
@@ -88,9 +78,8 @@ module _ (st : State) (s : List ℕ) where
   room (Accept (Request tag size enabled term) count) h = (omega arith, λ e. absurd (e refl))
   room (Accept (Trigger tag) count) h = (omega arith, λ e. absurd (e refl))
 
-  pub plan-room : Room st s (outPlan st s)
-  unfolding outPlan
-  plan-room = room (outcome st s) outcome-carried
+  pub planned-room : (x : Outcome) (plan : Plan) → sound st ≡ true → plan ≡ planned st x → x ≡ outcome st s → Room st s plan
+  planned-room x plan h e f = subst (Room st s) (sym (e ∙ ap (planned st) f)) (room (outcome st s) (outcome-carried h))
 
 -- ** the message store
 

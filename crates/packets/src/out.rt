@@ -1,72 +1,32 @@
 // What a Bulk-OUT packet leaves, by what it comes to.
-use outcomes::outcome::MOST;
-use outcomes::outcome::outcome;
-use port::types::ASKED;
-use port::types::BulkIn;
-use port::types::BulkOut;
+use crate::sides::absorbed;
+use crate::sides::opened;
+use crate::sides::requested;
+use crate::sides::tagged;
 use port::types::Outcome;
 use port::types::Plan;
-use port::types::STORE;
-use port::types::Small;
 use port::types::State;
-use remote::remote::heard;
+use remote::remote::headed;
 use rules::DONE;
-use rules::TELLS_NOTHING;
 use rules::TELLS_TRIGGER;
+use rules::verdict::Verdict;
+use rules::verdict::only;
 use state::parts::broken;
+use state::parts::with_in;
 use state::parts::with_out;
+use state::parts::with_remote;
 use wire::header::HEADER;
-use wire::numbers::widened;
 use wire::types::Header;
 ghost use mathlib.Core.Path.{_≡_};
-ghost use Prim.Native.Nat.{ℕ, min};
-ghost use Rattle.port.specs.Out.{outcome, absorbed, opened, tagged, CanAbsorb, CanAccept, Can, Room, plain, accepted, planned, outPlan};
+ghost use Prim.Native.Nat.{ℕ};
+ghost use Rattle.port.specs.Out.{opened, CanAbsorb, CanAccept, Can, plain, accepted, planned};
 
-// `count` data bytes of the open transfer are here.
-fn absorbed(o: BulkOut, count: usize) -> BulkOut
-    requires { ⌜ CanAbsorb o count ⌝ }
-    ensures { λ r. ⌜ r ≡ absorbed o count ⌝ }
-{
-    let n = count as u16;
-    if o.left == n {
-        return BulkOut {
-            held: o.held + n,
-            left: 0,
-            got: 0,
-            end: 0,
-            ready: o.end,
-            halted: o.halted,
-            recent: o.recent,
-        };
-    }
-    BulkOut {
-        held: o.held + n,
-        left: o.left - n,
-        got: o.got + n,
-        end: o.end,
-        ready: 0,
-        halted: o.halted,
-        recent: o.recent,
-    }
-}
-
-// What is asked for, as much of it as a store can hold.
-fn asked(size: u32) -> u16
-    ensures { λ r. ⌜ r ≡ min size 1024 ⌝ }
-{
-    if size < MOST {
-        return size as u16;
-    }
-    STORE
-}
-
-fn plain(state: State, number: u8) -> Plan
-    ensures { λ r. ⌜ r ≡ plain state number ⌝ }
+pub fn plain(state: State, verdict: Verdict) -> Plan
+    ensures { λ r. ⌜ r ≡ plain state verdict ⌝ }
 {
     Plan {
         state,
-        number,
-        tells: TELLS_NOTHING,
+        verdict,
         from: 0,
         count: 0,
     }
@@ -78,44 +38,15 @@ fn message_accepted(st: State, tag: u8, size: u32, end: u8, count: usize) -> Pla
     ensures { λ r. ⌜ r ≡ accepted st (Header.Message tag size end) count ⌝ }
 {
     let o = st.small.bulkout;
-    let opened = BulkOut {
-        held: o.held,
-        left: size as u16,
-        got: 0,
-        end,
-        ready: o.ready,
-        halted: o.halted,
-        recent: tag,
-    };
-    let bulkout = absorbed(opened, count);
     let r = st.remote;
-    let remote = heard(st.small.port.ren, r);
-    let port = st.small.port;
-    let bulkin = st.small.bulkin;
-    let split = st.split;
+    let remote = headed(st.small.port.ren, r);
+    let bulkout = absorbed(opened(o, tag, size as u16, end), count);
     Plan {
-        state: State {
-            small: Small {
-                port,
-                bulkout,
-                bulkin,
-            },
-            split,
-            remote,
-        },
-        number: DONE,
-        tells: TELLS_NOTHING,
+        state: with_remote(with_out(st, bulkout), remote),
+        verdict: only(DONE),
         from: HEADER,
         count,
     }
-}
-
-fn tagged(o: BulkOut, tag: u8) -> BulkOut
-    ensures { λ r. ⌜ r ≡ tagged o tag ⌝ }
-{
-    let mut next = o;
-    next.recent = tag;
-    next
 }
 
 // A REQUEST_DEV_DEP_MSG_IN header.
@@ -124,35 +55,10 @@ fn request_accepted(st: State, tag: u8, size: u32, enabled: u8, term: u8, count:
 {
     let o = st.small.bulkout;
     let b = st.small.bulkin;
-    let bulkout = tagged(o, tag);
-    let asked = asked(size);
-    let bulkin = BulkIn {
-        at: b.at,
-        unsent: b.unsent,
-        asked,
-        left: 0,
-        sent: 0,
-        enabled,
-        term,
-        phase: ASKED,
-        tag,
-        halted: b.halted,
-        recent: tag,
-    };
-    let port = st.small.port;
-    let split = st.split;
-    let remote = st.remote;
+    let out = with_out(st, tagged(o, tag));
     plain(
-        State {
-            small: Small {
-                port,
-                bulkout,
-                bulkin,
-            },
-            split,
-            remote,
-        },
-        DONE,
+        with_in(out, requested(b, tag, size, enabled, term)),
+        only(DONE),
     )
 }
 
@@ -161,14 +67,13 @@ fn trigger_accepted(st: State, tag: u8, count: usize) -> Plan
     ensures { λ r. ⌜ r ≡ accepted st (Header.Trigger tag) count ⌝ }
 {
     let o = st.small.bulkout;
-    let state = with_out(st, tagged(o, tag));
-    Plan {
-        state,
-        number: DONE,
-        tells: TELLS_TRIGGER,
-        from: 0,
-        count: 0,
-    }
+    plain(
+        with_out(st, tagged(o, tag)),
+        Verdict {
+            number: DONE,
+            tells: TELLS_TRIGGER,
+        },
+    )
 }
 
 fn accepted(st: State, h: Header, count: usize) -> Plan
@@ -191,7 +96,7 @@ fn halts(st: State, number: u8) -> Plan
     ensures { λ r. ⌜ r ≡ planned st (Outcome.Halt number) ⌝ }
 {
     let o = st.small.bulkout;
-    plain(with_out(st, broken(1, o)), number)
+    plain(with_out(st, broken(1, o)), only(number))
 }
 
 fn data(st: State, count: usize) -> Plan
@@ -199,33 +104,23 @@ fn data(st: State, count: usize) -> Plan
     ensures { λ r. ⌜ r ≡ planned st (Outcome.Data count) ⌝ }
 {
     let o = st.small.bulkout;
-    let state = with_out(st, absorbed(o, count));
     Plan {
-        state,
-        number: DONE,
-        tells: TELLS_NOTHING,
+        state: with_out(st, absorbed(o, count)),
+        verdict: only(DONE),
         from: 0,
         count,
     }
 }
 
 // What an outcome leaves.
-fn planned(st: State, x: Outcome) -> Plan
+pub fn planned(st: State, x: Outcome) -> Plan
     requires { ⌜ Can st x ⌝ }
     ensures { λ r. ⌜ r ≡ planned st x ⌝ }
 {
     match x {
-        Outcome::Keep { number } => plain(st, number),
+        Outcome::Keep { number } => plain(st, only(number)),
         Outcome::Halt { number } => halts(st, number),
         Outcome::Data { count } => data(st, count),
         Outcome::Accept { header, count } => accepted(st, header, count),
     }
-}
-
-// What a packet leaves, and which bytes of it go into the message, where they have room.
-pub fn out_plan(st: State, s: &[u8]) -> Plan
-    ensures { λ r. ⌜ (r ≡ outPlan st (now (s .entry))) × Room st (now (s .entry)) r ⌝ }
-{
-    let x = outcome(st, s);
-    planned(st, x)
 }

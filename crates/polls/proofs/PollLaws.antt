@@ -9,71 +9,43 @@ use native.Mathlib.Omega.{arith}
 use native.Mathlib.Numerals.{add-one}
 use lib.ListN.{length, getD, take, drop, length-append, length-take, length-drop}
 use lib.Seq.{paste, drop-cons, drop-length, length-take-le, take-all, take-take, take-append-add, take-at, drop-append-add, drop-drop, getD-take, getD-drop}
-use borrow.Author.Tests.{eq-eqb, ne-eqb, eqb-true, lt-ltb, le-ltb, ltb-false, leb-true, leb-false}
-use Rattle.rules.specs.Choice.{_=ᵇ_, _<ᵇ_, _≤ᵇ_, pick, _⇒_∣_, first}
-use Rattle.rules.specs.Answers.{DONE, UNSOUND, UNCONFIGURED, WRONG-SIZE, HALTED, WAIT, TELLS-NOTHING}
-use Rattle.rules.proofs.Choice.{NoneOf, no-true, no-false, ne-neb, eq-neb, or-left, or-right, or-none, and-both, and-left, and-right, not-no, either, pick-true, pick-false, at-true, at-false, pick-all, decide-all, refuses, passes}
+use borrow.Author.Tests.{eq-eqb, ne-eqb, eqb-true, ltb-false, leb-true, leb-false}
+use Rattle.rules.specs.Choice.{_=ᵇ_, _<ᵇ_, _≤ᵇ_, pick, first}
+use Rattle.rules.specs.Answers.{done}
+use Rattle.rules.proofs.Choice.{NoneOf, no-true, no-false, ne-neb, eq-neb, or-left, or-right, or-none, and-both, and-left, and-right, either, pick-true, pick-false, at-true, at-false, pick-all, decide-all, refuses, passes}
 use Rattle.wire.specs.Bytes.{byte, bytes4, into}
 use Rattle.wire.specs.Header.{HEADER, D1, inHeader}
-use Rattle.port.specs.Parts.{STORE, FULL-SPEED, HIGH-SPEED, CLOSED, ASKED, SENDING, OWED, on, isSize, packetSize, inOf, withIn, shut}
-use Rattle.port.specs.In.{Said, says, refuse, upTo, sendable, termMark, marks, fixed, header, started, toGo, gone, send, nothingToSend, inRules, poll}
+use Rattle.port.specs.Parts.{STORE, FULL-SPEED, HIGH-SPEED, CLOSED, ASKED, SENDING, OWED, on, isSize, inOf, packetSize, withIn, shut}
 use Rattle.port.specs.Sound.{sound}
-use Rattle.port.proofs.Soundness.{Phase, is-closed, is-asked, is-sending, is-owed, sound-of}
-use Rattle.port.specs.declared.types.BulkIn.{BulkIn}
-use Rattle.port.specs.declared.types.State.{State}
+use Rattle.port.specs.Answer.{Said, refuse}
+use Rattle.port.specs.In.{Packet, upTo, sendable, termMark, marks, fixed, header, started, toGo, gone, send, nextPacket, nothingToSend, inRules, sends, poll}
 use Rattle.port.specs.Device.{unsentIn}
-use Rattle.port.specs.Given.{Hands}
-use Rattle.polls.specs.Poll.{carried, afterPacket, Going, Starting, CanSend}
+use Rattle.port.specs.Given.{givenOf, Hands}
+use Rattle.port.specs.declared.types.BulkIn.{BulkIn}
 use Rattle.port.specs.declared.types.Given.{Given}
+use Rattle.port.specs.declared.types.State.{State}
+use Rattle.port.proofs.Soundness.{Phase, is-closed, is-asked, is-sending, is-owed, sound-of}
+use Rattle.state.proofs.Handed.{hands-by}
+use Rattle.polls.specs.Poll.{Cuts, carried, afterPacket, Going, Starting, CanSend}
+use Rattle.polls.specs.declared.types.InPacket.{InPacket}
 
 -- ** whether there is a packet to send
 
 module _ (b : BulkIn) where
-  pub owed-goes : b .phase ≡ OWED → false ≡ nothingToSend b
-  owed-goes e = sym (and-left _ _ (no-false _ (eq-eqb (b .phase) OWED e)))
+  pub owed-goes : b .transfer .phase ≡ OWED → false ≡ nothingToSend b
+  owed-goes e = sym (and-left _ _ (no-false _ (eq-eqb (b .transfer .phase) OWED e)))
 
-  pub closed-waits : (b .phase ≡ OWED → ⊥) → b .phase ≡ CLOSED → true ≡ nothingToSend b
-  closed-waits o e = sym (and-both _ _ (no-true _ (ne-eqb (b .phase) OWED o)) (or-left _ _ (no-true _ (eq-neb (b .phase) CLOSED e))))
+  pub closed-waits : (b .transfer .phase ≡ OWED → ⊥) → b .transfer .phase ≡ CLOSED → true ≡ nothingToSend b
+  closed-waits o e = sym (and-both _ _ (no-true _ (ne-eqb (b .transfer .phase) OWED o)) (or-left _ _ (no-true _ (eq-neb (b .transfer .phase) CLOSED e))))
 
-  pub sending-goes : (b .phase ≡ CLOSED → ⊥) → b .phase ≡ SENDING → false ≡ nothingToSend b
-  sending-goes n e = sym (and-right _ _ (or-none _ _ (no-false _ (ne-neb (b .phase) CLOSED n)) (no-false _ (or-right _ _ (eq-eqb (b .phase) SENDING e)))))
+  pub sending-goes : (b .transfer .phase ≡ CLOSED → ⊥) → b .transfer .phase ≡ SENDING → false ≡ nothingToSend b
+  sending-goes n e = sym (and-right _ _ (or-none _ _ (no-false _ (ne-neb (b .transfer .phase) CLOSED n)) (no-false _ (or-right _ _ (eq-eqb (b .transfer .phase) SENDING e)))))
 
-  pub empty-waits : (b .phase ≡ OWED → ⊥) → (b .phase ≡ SENDING → ⊥) → b .unsent ≡ 0 → true ≡ nothingToSend b
-  empty-waits o s e = sym (and-both _ _ (no-true _ (ne-eqb (b .phase) OWED o)) (or-right _ _ (no-true _ (or-none _ _ (eq-neb (b .unsent) 0 e) (ne-eqb (b .phase) SENDING s)))))
+  pub empty-waits : (b .transfer .phase ≡ OWED → ⊥) → (b .transfer .phase ≡ SENDING → ⊥) → b .reply .unsent ≡ 0 → true ≡ nothingToSend b
+  empty-waits o s e = sym (and-both _ _ (no-true _ (ne-eqb (b .transfer .phase) OWED o)) (or-right _ _ (no-true _ (or-none _ _ (eq-neb (b .reply .unsent) 0 e) (ne-eqb (b .transfer .phase) SENDING s)))))
 
-  pub reply-goes : (b .phase ≡ CLOSED → ⊥) → (b .unsent ≡ 0 → ⊥) → false ≡ nothingToSend b
-  reply-goes n e = sym (and-right _ _ (or-none _ _ (no-false _ (ne-neb (b .phase) CLOSED n)) (no-false _ (or-left _ _ (ne-neb (b .unsent) 0 e)))))
-
--- ** the gate: the first of 1 to 5
-
-module _ (st : State) (room : ℕ) where
-  pub gate-unsound : sound st ≡ false → UNSOUND ≡ first (inRules st room) 0
-  gate-unsound e = pick-true _ _ _ _ (no-true _ e) refl
-
-  module _ (whole : sound st ≡ true) where
-    pub gate-unconfigured : (st .small .port .configured ≡ 1 → ⊥) → UNCONFIGURED ≡ first (inRules st room) 0
-    gate-unconfigured e = pick-false _ _ _ _ (no-false _ whole) (pick-true _ _ _ _ (no-true _ (ne-eqb (st .small .port .configured) 1 e)) refl)
-
-    module _ (configured : st .small .port .configured ≡ 1) where
-      after-two : (n : ℕ) → n ≡ first (room <ᵇ packetSize st ⇒ WRONG-SIZE ∣ on (inOf st .halted) ⇒ HALTED ∣ nothingToSend (inOf st) ⇒ WAIT ∣ []) 0 → n ≡ first (inRules st room) 0
-      after-two n h = pick-false _ _ _ _ (no-false _ whole) (pick-false _ _ _ _ (no-false _ (eq-eqb (st .small .port .configured) 1 configured)) h)
-
-      pub gate-small : room < packetSize st → WRONG-SIZE ≡ first (inRules st room) 0
-      gate-small e = after-two _ (pick-true _ _ _ _ (lt-ltb room (packetSize st) e) refl)
-
-      module _ (fits : packetSize st ≤ room) where
-        pub gate-halted : inOf st .halted ≡ 1 → HALTED ≡ first (inRules st room) 0
-        gate-halted e = after-two _ (pick-false _ _ _ _ (le-ltb room (packetSize st) fits) (pick-true _ _ _ _ (eq-eqb (inOf st .halted) 1 e) refl))
-
-        module _ (running : inOf st .halted ≡ 1 → ⊥) where
-          after-four : (n : ℕ) → n ≡ first (nothingToSend (inOf st) ⇒ WAIT ∣ []) 0 → n ≡ first (inRules st room) 0
-          after-four n h = after-two n (pick-false _ _ _ _ (le-ltb room (packetSize st) fits) (pick-false _ _ _ _ (ne-eqb (inOf st .halted) 1 running) h))
-
-          pub gate-waits : nothingToSend (inOf st) ≡ true → WAIT ≡ first (inRules st room) 0
-          gate-waits e = after-four _ (pick-true _ _ _ _ e refl)
-
-          pub gate-passed : nothingToSend (inOf st) ≡ false → DONE ≡ first (inRules st room) 0
-          gate-passed e = after-four _ (pick-false _ _ _ _ e refl)
+  pub reply-goes : (b .transfer .phase ≡ CLOSED → ⊥) → (b .reply .unsent ≡ 0 → ⊥) → false ≡ nothingToSend b
+  reply-goes n e = sym (and-right _ _ (or-none _ _ (no-false _ (ne-neb (b .transfer .phase) CLOSED n)) (no-false _ (or-left _ _ (ne-neb (b .reply .unsent) 0 e)))))
 
 -- ** up to and with the first TermChar
 
@@ -113,53 +85,42 @@ up-some char (x ∷ s) e = pick-all (λ (n : ℕ). 0 < n) (x =ᵇ char) _ _ (λ 
 
 -- ** the first packet fixes N
 
-module _ (b : BulkIn) (reply : List ℕ) (held : b .at + b .unsent ≤ length reply) where
-  unsent-length : length (unsentIn b reply) ≡ b .unsent
-  unsent-length = length-take-le (b .unsent) (drop (b .at) reply) (rw length-drop (omega arith))
+module _ (b : BulkIn) (reply : List ℕ) (held : b .reply .at + b .reply .unsent ≤ length reply) where
+  unsent-length : length (unsentIn b reply) ≡ b .reply .unsent
+  unsent-length = length-take-le (b .reply .unsent) (drop (b .reply .at) reply) (rw length-drop (omega arith))
 
-  pub sendable-term : b .enabled ≡ 1 → upTo (b .term) (take (min (b .asked) (b .unsent)) (drop (b .at) reply)) ≡ sendable b (unsentIn b reply)
+  pub sendable-term : b .transfer .enabled ≡ 1 → upTo (b .transfer .term) (take (min (b .transfer .asked) (b .reply .unsent)) (drop (b .reply .at) reply)) ≡ sendable b (unsentIn b reply)
   sendable-term e =
-      let most : ℕ = min (b .asked) (b .unsent) in
-      let part : upTo (b .term) (take most (drop (b .at) reply)) ≡ upTo (b .term) (take most (unsentIn b reply)) = ap (upTo (b .term)) (sym (take-take most (b .unsent) (drop (b .at) reply) (omega arith))) in
-      let cut = up-take (b .term) most (unsentIn b reply) in
-      let chosen : pick (on (b .enabled)) (upTo (b .term) (unsentIn b reply)) (b .unsent) ≡ upTo (b .term) (unsentIn b reply) = at-true _ _ _ (eq-eqb (b .enabled) 1 e) in
+      let most : ℕ = min (b .transfer .asked) (b .reply .unsent) in
+      let part : upTo (b .transfer .term) (take most (drop (b .reply .at) reply)) ≡ upTo (b .transfer .term) (take most (unsentIn b reply)) = ap (upTo (b .transfer .term)) (sym (take-take most (b .reply .unsent) (drop (b .reply .at) reply) (omega arith))) in
+      let cut = up-take (b .transfer .term) most (unsentIn b reply) in
+      let chosen : pick (on (b .transfer .enabled)) (upTo (b .transfer .term) (unsentIn b reply)) (b .reply .unsent) ≡ upTo (b .transfer .term) (unsentIn b reply) = at-true _ _ _ (eq-eqb (b .transfer .enabled) 1 e) in
       omega arith
 
-  pub sendable-plain : (b .enabled ≡ 1 → ⊥) → min (b .asked) (b .unsent) ≡ sendable b (unsentIn b reply)
+  pub sendable-plain : (b .transfer .enabled ≡ 1 → ⊥) → min (b .transfer .asked) (b .reply .unsent) ≡ sendable b (unsentIn b reply)
   sendable-plain e =
-      let chosen : pick (on (b .enabled)) (upTo (b .term) (unsentIn b reply)) (b .unsent) ≡ b .unsent = at-false _ _ _ (ne-eqb (b .enabled) 1 e) in
+      let chosen : pick (on (b .transfer .enabled)) (upTo (b .transfer .term) (unsentIn b reply)) (b .reply .unsent) ≡ b .reply .unsent = at-false _ _ _ (ne-eqb (b .transfer .enabled) 1 e) in
       omega arith
 
-  pub sendable-some : (b .asked ≡ 0 → ⊥) → (b .unsent ≡ 0 → ⊥) → 0 < sendable b (unsentIn b reply)
+  pub sendable-some : (b .transfer .asked ≡ 0 → ⊥) → (b .reply .unsent ≡ 0 → ⊥) → 0 < sendable b (unsentIn b reply)
   sendable-some a u =
       let l = unsent-length in
-      let some : 0 < pick (on (b .enabled)) (upTo (b .term) (unsentIn b reply)) (b .unsent) = pick-all (λ (n : ℕ). 0 < n) (on (b .enabled)) _ _ (λ _. up-some (b .term) (unsentIn b reply) (omega arith)) (λ _. omega arith) in
+      let some : 0 < pick (on (b .transfer .enabled)) (upTo (b .transfer .term) (unsentIn b reply)) (b .reply .unsent) = pick-all (λ (n : ℕ). 0 < n) (on (b .transfer .enabled)) _ _ (λ _. up-some (b .transfer .term) (unsentIn b reply) (omega arith)) (λ _. omega arith) in
       omega arith
 
   -- the last byte, in the store
-  last-byte : (n : ℕ) → 0 < n → n ≤ b .unsent → byte (unsentIn b reply) (n - 1) ≡ getD reply (b .at + (n - 1)) 0
-  last-byte n p m = getD-take (b .unsent) (drop (b .at) reply) (n - 1) 0 (omega arith) ∙ getD-drop (b .at) reply (n - 1) 0
+  last-byte : (n : ℕ) → 0 < n → n ≤ b .reply .unsent → byte (unsentIn b reply) (n - 1) ≡ getD reply (b .reply .at + (n - 1)) 0
+  last-byte n p m = getD-take (b .reply .unsent) (drop (b .reply .at) reply) (n - 1) 0 (omega arith) ∙ getD-drop (b .reply .at) reply (n - 1) 0
 
-  module _ (n : ℕ) (some : 0 < n) (most : n ≤ b .unsent) where
-    pub term-last : b .enabled ≡ 1 → getD reply (b .at + (n - 1)) 0 ≡ b .term → D1 ≡ termMark b (unsentIn b reply) n
-    term-last e l = pick-true _ _ _ _ (and-both _ _ (eq-eqb (b .enabled) 1 e) (eq-eqb _ (b .term) (last-byte n some most ∙ l))) refl
+  module _ (n : ℕ) (some : 0 < n) (most : n ≤ b .reply .unsent) where
+    pub term-last : b .transfer .enabled ≡ 1 → getD reply (b .reply .at + (n - 1)) 0 ≡ b .transfer .term → D1 ≡ termMark b (unsentIn b reply) n
+    term-last e l = pick-true _ _ _ _ (and-both _ _ (eq-eqb (b .transfer .enabled) 1 e) (eq-eqb _ (b .transfer .term) (last-byte n some most ∙ l))) refl
 
-    pub term-not-last : (getD reply (b .at + (n - 1)) 0 ≡ b .term → ⊥) → 0 ≡ termMark b (unsentIn b reply) n
-    term-not-last l = pick-false _ _ _ _ (and-right _ _ (ne-eqb _ (b .term) (λ q. l (sym (last-byte n some most) ∙ q)))) refl
+    pub term-not-last : (getD reply (b .reply .at + (n - 1)) 0 ≡ b .transfer .term → ⊥) → 0 ≡ termMark b (unsentIn b reply) n
+    term-not-last l = pick-false _ _ _ _ (and-right _ _ (ne-eqb _ (b .transfer .term) (λ q. l (sym (last-byte n some most) ∙ q)))) refl
 
-pub term-off : (b : BulkIn) (unsent : List ℕ) (n : ℕ) → (b .enabled ≡ 1 → ⊥) → 0 ≡ termMark b unsent n
-term-off b unsent n e = pick-false _ _ _ _ (and-left _ _ (ne-eqb (b .enabled) 1 e)) refl
-
--- ** what a packet leaves
-
-module _ (st : State) (b : BulkIn) (front count : ℕ) where
-  pub after-short : front + count < packetSize st → _≡_ {A = Given} (record { state = withIn st (shut (gone b count)); number = DONE; tells = TELLS-NOTHING; len = front + count }) (afterPacket st b front count)
-  unfolding afterPacket pick
-  after-short e = rw (lt-ltb (front + count) (packetSize st) e)
-
-  pub after-full : packetSize st ≤ front + count → _≡_ {A = Given} (record { state = withIn st (gone b count); number = DONE; tells = TELLS-NOTHING; len = front + count }) (afterPacket st b front count)
-  unfolding afterPacket pick
-  after-full e = rw (le-ltb (front + count) (packetSize st) e)
+pub term-off : (b : BulkIn) (unsent : List ℕ) (n : ℕ) → (b .transfer .enabled ≡ 1 → ⊥) → 0 ≡ termMark b unsent n
+term-off b unsent n e = pick-false _ _ _ _ (and-left _ _ (ne-eqb (b .transfer .enabled) 1 e)) refl
 
 -- ** a packet is cut from a header, of 12 bytes or none, and the data
 
@@ -180,130 +141,136 @@ take-min m n s = by (m ≤ᵇ n) refl
     by false l = let h = leb-false m n l in let e : min m n ≡ n = omega arith in take-all m (take n s) (rw length-take (omega arith)) ∙ ap (λ (k : ℕ). take k s) (sym e)
 
 -- the packet that `send` cuts, by the header and the transfer that it starts from
-cut : State → List ℕ → BulkIn → List ℕ → Said
-cut st h b unsent =
-    let packet = take (packetSize st) (h ++ take (b .left) unsent) in
+cut : ℕ → List ℕ → BulkIn → List ℕ → Packet
+cut p h b unsent =
+    let packet = take p (h ++ take (b .transfer .left) unsent) in
     let after = gone b (length packet - length h) in
-    says (withIn st (pick (length packet <ᵇ packetSize st) (shut after) after)) packet
+    record { side = pick (length packet <ᵇ p) (shut after) after; bytes = packet }
 
-module _ (st : State) (h : List ℕ) (b : BulkIn) (unsent : List ℕ) (front : length h ≤ packetSize st) (left : b .left ≤ length unsent) where
-  packet-is : take (packetSize st) (h ++ take (b .left) unsent) ≡ h ++ take (carried st b (length h)) unsent
+module _ (p : ℕ) (h : List ℕ) (b : BulkIn) (unsent : List ℕ) (front : length h ≤ p) (left : b .transfer .left ≤ length unsent) where
+  packet-is : take p (h ++ take (b .transfer .left) unsent) ≡ h ++ take (carried p b (length h)) unsent
   packet-is =
-      let e : packetSize st ≡ length h + (packetSize st - length h) = omega arith in
-      ap (λ (k : ℕ). take k (h ++ take (b .left) unsent)) e ∙ take-append-add h (take (b .left) unsent) (packetSize st - length h)
-      ∙ ap (λ (s : List ℕ). h ++ s) (take-min (packetSize st - length h) (b .left) unsent)
+      let e : p ≡ length h + (p - length h) = omega arith in
+      ap (λ (k : ℕ). take k (h ++ take (b .transfer .left) unsent)) e ∙ take-append-add h (take (b .transfer .left) unsent) (p - length h)
+      ∙ ap (λ (s : List ℕ). h ++ s) (take-min (p - length h) (b .transfer .left) unsent)
 
-  packet-length : length (h ++ take (carried st b (length h)) unsent) ≡ length h + carried st b (length h)
-  packet-length = length-append h (take (carried st b (length h)) unsent) ∙ ap (λ (k : ℕ). length h + k) (length-take-le (carried st b (length h)) unsent (omega arith))
+  packet-length : length (h ++ take (carried p b (length h)) unsent) ≡ length h + carried p b (length h)
+  packet-length = length-append h (take (carried p b (length h)) unsent) ∙ ap (λ (k : ℕ). length h + k) (length-take-le (carried p b (length h)) unsent (omega arith))
 
-  cut-is : cut st h b unsent ≡ says (afterPacket st b (length h) (carried st b (length h)) .state) (h ++ take (carried st b (length h)) unsent)
+  cut-is : cut p h b unsent ≡ record { side = afterPacket p b (length h) (carried p b (length h)) .side; bytes = h ++ take (carried p b (length h)) unsent }
   unfolding cut afterPacket
   cut-is =
-      let size : length (take (packetSize st) (h ++ take (b .left) unsent)) ≡ length h + carried st b (length h) = ap length packet-is ∙ packet-length in
-      let count : length (take (packetSize st) (h ++ take (b .left) unsent)) - length h ≡ carried st b (length h) = omega arith in
-      λ i. says (withIn st (pick (size i <ᵇ packetSize st) (shut (gone b (count i))) (gone b (count i)))) (packet-is i)
+      let size : length (take p (h ++ take (b .transfer .left) unsent)) ≡ length h + carried p b (length h) = ap length packet-is ∙ packet-length in
+      let count : length (take p (h ++ take (b .transfer .left) unsent)) - length h ≡ carried p b (length h) = omega arith in
+      λ i. record { side = pick (size i <ᵇ p) (shut (gone b (count i))) (gone b (count i)); bytes = packet-is i }
 
-hands-by : (r : Given) (before after : List ℕ) {said said′ : Said} → said ≡ said′ → Hands said r before after → Hands said′ r before after
-hands-by r before after e = subst (λ (x : Said). Hands x r before after) e
+cuts-by : (r : InPacket) (before after : List ℕ) {packet packet′ : Packet} → packet ≡ packet′ → Cuts packet r before after → Cuts packet′ r before after
+cuts-by r before after e = subst (λ (x : Packet). Cuts x r before after) e
 
-module _ (st : State) (h : List ℕ) (b : BulkIn) (src before mid : List ℕ) (count : ℕ) (fits : length h ≤ packetSize st) (left : b .left ≤ count) (held : count ≤ length src) (written : mid ≡ into h before) where
-  cut-whole : Hands (cut st h b (take count src)) (afterPacket st b (length h) (carried st b (length h))) before (paste mid (length h) src (carried st b (length h)))
+module _ (p : ℕ) (h : List ℕ) (b : BulkIn) (src before mid : List ℕ) (count : ℕ) (fits : length h ≤ p) (left : b .transfer .left ≤ count) (held : count ≤ length src) (written : mid ≡ into h before) where
+  cut-whole : Cuts (cut p h b (take count src)) (afterPacket p b (length h) (carried p b (length h))) before (paste mid (length h) src (carried p b (length h)))
   unfolding afterPacket
   cut-whole =
-      let k : ℕ = carried st b (length h) in
+      let k : ℕ = carried p b (length h) in
       let whole : length (take count src) ≡ count = length-take-le count src held in
       let part : take k (take count src) ≡ take k src = take-take k count src (omega arith) in
-      let said : cut st h b (take count src) ≡ says (afterPacket st b (length h) k .state) (h ++ take k src) =
-      cut-is st h b (take count src) fits (omega arith) ∙ ap (λ (s : List ℕ). says (afterPacket st b (length h) k .state) (h ++ s)) part in
+      let is : cut p h b (take count src) ≡ record { side = afterPacket p b (length h) k .side; bytes = h ++ take k src } =
+      cut-is p h b (take count src) fits (omega arith) ∙ ap (λ (s : List ℕ). record { side = afterPacket p b (length h) k .side; bytes = h ++ s }) part in
       let size : length (h ++ take k src) ≡ length h + k = length-append h (take k src) ∙ ap (λ (m : ℕ). length h + m) (length-take-le k src (omega arith)) in
-      hands-by _ before _ (sym said) (λ i. record { state = afterPacket st b (length h) k .state; number = DONE; tells = TELLS-NOTHING; len = sym size i }, pasted h src before mid k (omega arith) written)
+      cuts-by _ before _ (sym is) (λ i. record { side = afterPacket p b (length h) k .side; len = sym size i }, pasted h src before mid k (omega arith) written)
 
-  cut-hands : (front : ℕ) → length h ≡ front → Hands (cut st h b (take count src)) (afterPacket st b front (carried st b front)) before (paste mid front src (carried st b front))
-  cut-hands front e = subst (λ (f : ℕ). Hands (cut st h b (take count src)) (afterPacket st b f (carried st b f)) before (paste mid f src (carried st b f))) e cut-whole
+  cut-cuts : (front : ℕ) → length h ≡ front → Cuts (cut p h b (take count src)) (afterPacket p b front (carried p b front)) before (paste mid front src (carried p b front))
+  cut-cuts front e = subst (λ (f : ℕ). Cuts (cut p h b (take count src)) (afterPacket p b f (carried p b f)) before (paste mid f src (carried p b f))) e cut-whole
 
--- ** the packet of a state
+-- ** the packet of a side
 
 header-length : (tag n attributes : ℕ) → length (inHeader tag n attributes) ≡ HEADER
 unfolding inHeader bytes4
 header-length tag n attributes = refl
 
 module _ (b : BulkIn) (unsent : List ℕ) where
-  header-first : b .phase ≡ ASKED → header b unsent ≡ inHeader (b .tag) (sendable b unsent) (marks b unsent (sendable b unsent))
+  header-first : b .transfer .phase ≡ ASKED → header b unsent ≡ inHeader (b .transfer .tag) (sendable b unsent) (marks b unsent (sendable b unsent))
   unfolding header
-  header-first e = at-true _ _ _ (eq-eqb (b .phase) ASKED e)
+  header-first e = at-true _ _ _ (eq-eqb (b .transfer .phase) ASKED e)
 
-  started-first : b .phase ≡ ASKED → started b unsent ≡ fixed b unsent
+  started-first : b .transfer .phase ≡ ASKED → started b unsent ≡ fixed b unsent
   unfolding started
-  started-first e = at-true _ _ _ (eq-eqb (b .phase) ASKED e)
+  started-first e = at-true _ _ _ (eq-eqb (b .transfer .phase) ASKED e)
 
-  header-next : (b .phase ≡ ASKED → ⊥) → header b unsent ≡ []
+  header-next : (b .transfer .phase ≡ ASKED → ⊥) → header b unsent ≡ []
   unfolding header
-  header-next e = at-false _ _ _ (ne-eqb (b .phase) ASKED e)
+  header-next e = at-false _ _ _ (ne-eqb (b .transfer .phase) ASKED e)
 
-  started-next : (b .phase ≡ ASKED → ⊥) → started b unsent ≡ b
+  started-next : (b .transfer .phase ≡ ASKED → ⊥) → started b unsent ≡ b
   unfolding started
-  started-next e = at-false _ _ _ (ne-eqb (b .phase) ASKED e)
+  started-next e = at-false _ _ _ (ne-eqb (b .transfer .phase) ASKED e)
 
-send-is : (st : State) (unsent h : List ℕ) (b : BulkIn) → header (inOf st) unsent ≡ h → started (inOf st) unsent ≡ b → cut st h b unsent ≡ send st unsent
+send-is : (p : ℕ) (b : BulkIn) (unsent h : List ℕ) (b′ : BulkIn) → header b unsent ≡ h → started b unsent ≡ b′ → cut p h b′ unsent ≡ send p b unsent
 unfolding send toGo cut
-send-is st unsent h b e f = λ i. cut st (sym e i) (sym f i) unsent
+send-is p b unsent h b′ e f = λ i. cut p (sym e i) (sym f i) unsent
 
-module _ (st : State) (reply before : List ℕ) (r : Given) (after : List ℕ) (held : inOf st .at + inOf st .unsent ≤ length reply) where
-  in-store : inOf st .unsent ≤ length (drop (inOf st .at) reply)
+module _ (p : ℕ) (b : BulkIn) (reply before : List ℕ) (r : InPacket) (after : List ℕ) (held : b .reply .at + b .reply .unsent ≤ length reply) where
+  in-store : b .reply .unsent ≤ length (drop (b .reply .at) reply)
   in-store = rw length-drop (omega arith)
 
   -- the first packet, by its N
-  pub first-hands : (n : ℕ) (mid : List ℕ) → inOf st .phase ≡ ASKED → HEADER ≤ packetSize st → n ≡ sendable (inOf st) (unsentIn (inOf st) reply)
-      → mid ≡ into (inHeader (inOf st .tag) n (marks (inOf st) (unsentIn (inOf st) reply) n)) before
-      → r ≡ afterPacket st (fixed (inOf st) (unsentIn (inOf st) reply)) HEADER (carried st (fixed (inOf st) (unsentIn (inOf st) reply)) HEADER)
-      → after ≡ paste mid HEADER (drop (inOf st .at) reply) (carried st (fixed (inOf st) (unsentIn (inOf st) reply)) HEADER)
-      → Hands (send st (unsentIn (inOf st) reply)) r before after
+  pub first-cuts : (n : ℕ) (mid : List ℕ) → b .transfer .phase ≡ ASKED → HEADER ≤ p → n ≡ sendable b (unsentIn b reply)
+      → mid ≡ into (inHeader (b .transfer .tag) n (marks b (unsentIn b reply) n)) before
+      → r ≡ afterPacket p (fixed b (unsentIn b reply)) HEADER (carried p (fixed b (unsentIn b reply)) HEADER)
+      → after ≡ paste mid HEADER (drop (b .reply .at) reply) (carried p (fixed b (unsentIn b reply)) HEADER)
+      → Cuts (send p b (unsentIn b reply)) r before after
   unfolding fixed
-  first-hands n mid e f m w p q =
-      let b : BulkIn = inOf st in
+  first-cuts n mid e f m w g q =
       let unsent : List ℕ = unsentIn b reply in
-      let head : List ℕ = inHeader (b .tag) n (marks b unsent n) in
-      let long : length head ≡ HEADER = header-length (b .tag) n (marks b unsent n) in
-      let said : cut st head (fixed b unsent) unsent ≡ send st unsent =
-      send-is st unsent head (fixed b unsent) (header-first b unsent e ∙ ap (λ (k : ℕ). inHeader (b .tag) k (marks b unsent k)) (sym m)) (started-first b unsent e) in
-      let h = cut-hands st head (fixed b unsent) (drop (b .at) reply) before mid (b .unsent) (omega arith) (omega arith) in-store w HEADER long in
-      hands-by r before after said (p ∙ h .0, q ∙ h .1)
+      let head : List ℕ = inHeader (b .transfer .tag) n (marks b unsent n) in
+      let long : length head ≡ HEADER = header-length (b .transfer .tag) n (marks b unsent n) in
+      let is : cut p head (fixed b unsent) unsent ≡ send p b unsent =
+      send-is p b unsent head (fixed b unsent) (header-first b unsent e ∙ ap (λ (k : ℕ). inHeader (b .transfer .tag) k (marks b unsent k)) (sym m)) (started-first b unsent e) in
+      let h = cut-cuts p head (fixed b unsent) (drop (b .reply .at) reply) before mid (b .reply .unsent) (omega arith) (omega arith) in-store w HEADER long in
+      cuts-by r before after is (g ∙ h .0, q ∙ h .1)
 
-  pub next-hands : (inOf st .phase ≡ ASKED → ⊥) → inOf st .left ≤ inOf st .unsent → r ≡ afterPacket st (inOf st) 0 (carried st (inOf st) 0) → after ≡ paste before 0 (drop (inOf st .at) reply) (carried st (inOf st) 0)
-      → Hands (send st (unsentIn (inOf st) reply)) r before after
-  next-hands e l p q =
-      let unsent : List ℕ = unsentIn (inOf st) reply in
-      let said : cut st [] (inOf st) unsent ≡ send st unsent = send-is st unsent [] (inOf st) (header-next (inOf st) unsent e) (started-next (inOf st) unsent e) in
-      let h = cut-hands st [] (inOf st) (drop (inOf st .at) reply) before before (inOf st .unsent) (omega arith) l in-store refl 0 refl in
-      hands-by r before after said (p ∙ h .0, q ∙ h .1)
+  pub next-cuts : (b .transfer .phase ≡ ASKED → ⊥) → b .transfer .left ≤ b .reply .unsent → r ≡ afterPacket p b 0 (carried p b 0) → after ≡ paste before 0 (drop (b .reply .at) reply) (carried p b 0)
+      → Cuts (send p b (unsentIn b reply)) r before after
+  next-cuts e l g q =
+      let unsent : List ℕ = unsentIn b reply in
+      let is : cut p [] b unsent ≡ send p b unsent = send-is p b unsent [] b (header-next b unsent e) (started-next b unsent e) in
+      let h = cut-cuts p [] b (drop (b .reply .at) reply) before before (b .reply .unsent) (omega arith) l in-store refl 0 refl in
+      cuts-by r before after is (g ∙ h .0, q ∙ h .1)
+
+-- ** the next packet, owed or not
+
+module _ (p : ℕ) (b : BulkIn) (unsent : List ℕ) where
+  pub owed-cuts : (before : List ℕ) → b .transfer .phase ≡ OWED → Cuts (nextPacket p b unsent) (record { side = shut b; len = 0 }) before before
+  unfolding nextPacket
+  owed-cuts before e = cuts-by _ before before (pick-true (record { side = shut b; bytes = [] }) _ _ _ (eq-eqb _ _ e) refl) (refl, refl)
+
+  pub open-cuts : (r : InPacket) (before after : List ℕ) → (b .transfer .phase ≡ OWED → ⊥) → Cuts (send p b unsent) r before after → Cuts (nextPacket p b unsent) r before after
+  unfolding nextPacket
+  open-cuts r before after e = cuts-by r before after (pick-false (send p b unsent) _ _ _ (ne-eqb _ _ e) refl)
 
 -- ** a poll
 
 module _ (st : State) (unsent : List ℕ) (room number : ℕ) (gate : number ≡ first (inRules st room) 0) where
-  pub poll-refused : (before : List ℕ) → (number ≡ 0 → ⊥) → Hands (poll st unsent room) (record { state = st; number = number; tells = TELLS-NOTHING; len = 0 }) before before
+  pub poll-refused : (before : List ℕ) → (number ≡ 0 → ⊥) → Hands (poll st unsent room) (givenOf (refuse st number)) before before
   unfolding poll
   poll-refused before e = hands-by _ before before (refuses (refuse st) (inRules st room) _ number tt gate e) (refl, refl)
 
-  module _ (passed : number ≡ 0) where
-    pub poll-owed : (before : List ℕ) → inOf st .phase ≡ OWED → Hands (poll st unsent room) (record { state = withIn st (shut (inOf st)); number = DONE; tells = TELLS-NOTHING; len = 0 }) before before
-    unfolding poll
-    poll-owed before e =
-        hands-by _ before before (pick-true (says (withIn st (shut (inOf st))) []) _ _ _ (eq-eqb (inOf st .phase) OWED e) refl ∙ passes (refuse st) (inRules st room) _ number tt gate passed) (refl, refl)
-
-    pub poll-packet : (r : Given) (before after : List ℕ) → (inOf st .phase ≡ OWED → ⊥) → Hands (send st unsent) r before after → Hands (poll st unsent room) r before after
-    unfolding poll
-    poll-packet r before after e =
-        hands-by r before after (pick-false (send st unsent) _ _ _ (ne-eqb (inOf st .phase) OWED e) refl ∙ passes (refuse st) (inRules st room) _ number tt gate passed)
+  pub poll-packet : (packet : Packet) (r : InPacket) (before after : List ℕ) → number ≡ 0 → packet ≡ nextPacket (packetSize st) (inOf st) unsent → Cuts packet r before after
+      → Hands (poll st unsent room) (record { state = withIn st (r .side); verdict = done; len = r .len }) before after
+  unfolding poll
+  poll-packet packet r before after passed e c =
+      hands-by _ before after (ap (sends st) e ∙ passes (refuse st) (inRules st room) _ number tt gate passed)
+      (ap (λ (x : InPacket). record { state = withIn st (x .side); verdict = done; len = x .len }) (c .0), c .1)
 
 -- a poll that is not refused, and is owed no packet, finds one that can go
-module _ (st : State) (room number : ℕ) (gate : number ≡ first (inRules st room) 0) (passed : number ≡ 0) (unowed : inOf st .phase ≡ OWED → ⊥) where
-  pub poll-can : CanSend st room
-  poll-can = decide-all (λ (n : ℕ). n ≡ 0 → CanSend st room) (λ n. n) (inRules st room) 0 (λ e. absurd (omega arith), (λ e. absurd (omega arith), (λ e. absurd (omega arith), (λ e. absurd (omega arith), (λ e. absurd (omega arith), tt))))) can (sym gate ∙ passed)
+module _ (st : State) (room number : ℕ) (whole : sound st ≡ true) (gate : number ≡ first (inRules st room) 0) (passed : number ≡ 0) (unowed : inOf st .transfer .phase ≡ OWED → ⊥) where
+  pub poll-can : CanSend (packetSize st) (inOf st) room
+  poll-can = decide-all (λ (n : ℕ). n ≡ 0 → CanSend (packetSize st) (inOf st) room) (λ n. n) (inRules st room) 0 (λ e. absurd (omega arith), (λ e. absurd (omega arith), (λ e. absurd (omega arith), (λ e. absurd (omega arith), tt)))) can (sym gate ∙ passed)
     where
       size : isSize (packetSize st) ≡ true → HEADER ≤ packetSize st
       size e = ⊎-elim (λ t. let p = eqb-true (packetSize st) FULL-SPEED t in omega arith) (λ t. let p = eqb-true (packetSize st) HIGH-SPEED t in omega arith) (either _ _ e)
 
-      starting : Phase (inOf st) → nothingToSend (inOf st) ≡ false → inOf st .at + inOf st .unsent ≤ STORE → inOf st .phase ≡ ASKED → Starting (inOf st)
+      starting : Phase (inOf st .reply .unsent) (inOf st .transfer) → nothingToSend (inOf st) ≡ false → inOf st .reply .at + inOf st .reply .unsent ≤ STORE → inOf st .transfer .phase ≡ ASKED → Starting (inOf st)
       starting (is-closed e t i) n r a = absurd (omega arith)
       starting (is-asked e s) n r a = record {
         asked = s .some;
@@ -313,17 +280,17 @@ module _ (st : State) (room number : ℕ) (gate : number ≡ first (inRules st r
       starting (is-sending e s) n r a = absurd (omega arith)
       starting (is-owed e t i) n r a = absurd (omega arith)
 
-      going : Phase (inOf st) → nothingToSend (inOf st) ≡ false → inOf st .at + inOf st .unsent ≤ STORE → (inOf st .phase ≡ ASKED → ⊥) → Going (inOf st)
+      going : Phase (inOf st .reply .unsent) (inOf st .transfer) → nothingToSend (inOf st) ≡ false → inOf st .reply .at + inOf st .reply .unsent ≤ STORE → (inOf st .transfer .phase ≡ ASKED → ⊥) → Going (inOf st)
       going (is-closed e t i) n r a = absurd (true≢false (closed-waits (inOf st) unowed e ∙ n))
       going (is-asked e s) n r a = absurd (a e)
       going (is-sending e s) n r a = record { left = s .stored; reply = r; sent = s .count }
       going (is-owed e t i) n r a = absurd (unowed e)
 
-      can : NoneOf (inRules st room) → _≡_ {A = ℕ} 0 0 → CanSend st room
+      can : NoneOf (inRules st room) → _≡_ {A = ℕ} 0 0 → CanSend (packetSize st) (inOf st) room
       can n e =
-          let s = sound-of st (not-no _ (n .0)) in
-          let w = n .1 .1 .1 .1 .0 in
-          let l = ltb-false room (packetSize st) (n .1 .1 .0) in
+          let s = sound-of st whole in
+          let w = n .1 .1 .1 .0 in
+          let l = ltb-false room (packetSize st) (n .1 .0) in
           record {
             fits = (size (s .port .size), l);
             asked = starting (s .inward .phase) w (s .inward .reply);

@@ -1,19 +1,24 @@
 // A Bulk-IN poll: decided over the state; its packet is cut from the header and the reply's unsent bytes.
+use crate::types::InPacket;
 use port::types::ASKED;
 use port::types::BulkIn;
 use port::types::CLOSED;
 use port::types::Given;
+use port::types::InReply;
 use port::types::OWED;
 use port::types::SENDING;
 use port::types::State;
 use rules::DONE;
 use rules::HALTED;
-use rules::TELLS_NOTHING;
 use rules::UNCONFIGURED;
 use rules::UNSOUND;
 use rules::WAIT;
 use rules::WRONG_SIZE;
+use rules::verdict::only;
 use soundness::sound::sound;
+use state::given::given;
+use state::parts::carrying;
+use state::parts::sending_in;
 use state::parts::shut;
 use state::parts::with_in;
 use wire::copies::copy_in;
@@ -22,55 +27,55 @@ use wire::header::write_header;
 use wire::numbers::least;
 use wire::numbers::widened;
 ghost use mathlib.Core.Path.{_≡_};
+ghost use mathlib.Core.Bool.{true};
 ghost use Prim.Native.Nat.{_+_, _≤_, _<_};
 ghost use lib.ListN.{length, take, drop};
 ghost use lib.Seq.{paste};
-ghost use Rattle.rules.specs.Choice.{first};
-ghost use Rattle.port.specs.In.{upTo, sendable, endMark, termMark, fixed, gone, send, nothingToSend, inRules, poll};
+ghost use Rattle.rules.specs.Choice.{pick, first};
+ghost use Rattle.port.specs.Sound.{sound};
+ghost use Rattle.port.specs.Answer.{refuse};
+ghost use Rattle.port.specs.In.{upTo, sendable, endMark, termMark, fixed, gone, send, nextPacket, nothingToSend, inRules, poll};
 ghost use Rattle.port.specs.Device.{unsentIn};
 ghost use Rattle.port.specs.Given.{Hands};
-ghost use Rattle.polls.specs.Poll.{carried, afterPacket, Going, Fits, Starting, CanSend};
+ghost use Rattle.polls.specs.Poll.{carried, afterPacket, Going, Fits, Starting, CanSend, CanPoll, Cuts};
 
 // No packet is owed, and no transfer is open or no reply is stored.
 fn nothing_to_send(b: BulkIn) -> bool
     ensures { λ r. ⌜ r ≡ nothingToSend b ⌝ }
 {
-    if b.phase == OWED {
+    if b.transfer.phase == OWED {
         return false;
     }
-    if b.phase == CLOSED {
+    if b.transfer.phase == CLOSED {
         return true;
     }
-    if b.phase == SENDING {
+    if b.transfer.phase == SENDING {
         return false;
     }
-    if b.unsent == 0 {
+    if b.reply.unsent == 0 {
         return true;
     }
     false
 }
 
-// The first of 1 to 5 that applies to a poll into a buffer of `room` bytes, or 0.
-fn in_gate(st: State, room: usize) -> u8
+// The first of 2 to 5 that applies to a poll into a buffer of `room` bytes, or 0.
+pub fn in_gate(st: State, room: usize) -> u8
     ensures { λ r. ⌜ r ≡ first (inRules st room) 0 ⌝ }
 {
     let b = st.small.bulkin;
-    if sound(st) {
-        if st.small.port.configured != 1 {
-            return UNCONFIGURED;
-        }
-        if room < widened(st.small.port.setting.packet) {
-            return WRONG_SIZE;
-        }
-        if b.halted == 1 {
-            return HALTED;
-        }
-        if nothing_to_send(b) {
-            return WAIT;
-        }
-        return DONE;
+    if st.small.port.configured != 1 {
+        return UNCONFIGURED;
     }
-    UNSOUND
+    if room < widened(st.small.port.setting.packet) {
+        return WRONG_SIZE;
+    }
+    if b.halted == 1 {
+        return HALTED;
+    }
+    if nothing_to_send(b) {
+        return WAIT;
+    }
+    DONE
 }
 
 // How many of the n bytes from `from` on go up to and with the first `char`: all where there is none.
@@ -90,12 +95,12 @@ fn up_to(s: &[u8], from: usize, n: usize, char: u8) -> usize
 
 // N, the data bytes of a transfer that starts.
 fn sendable(reply: &[u8], b: BulkIn) -> usize
-    requires { ⌜ b .at + b .unsent ≤ length (now reply) ⌝ }
+    requires { ⌜ b .reply .at + b .reply .unsent ≤ length (now reply) ⌝ }
     ensures { λ r. ⌜ r ≡ sendable b (unsentIn b (now (reply .entry))) ⌝ }
 {
-    let most = least(widened(b.asked), widened(b.unsent));
-    if b.enabled == 1 {
-        return up_to(reply, widened(b.at), most, b.term);
+    let most = least(widened(b.transfer.asked), widened(b.reply.unsent));
+    if b.transfer.enabled == 1 {
+        return up_to(reply, widened(b.reply.at), most, b.transfer.term);
     }
     most
 }
@@ -104,7 +109,7 @@ fn sendable(reply: &[u8], b: BulkIn) -> usize
 fn end_mark(b: BulkIn, n: usize) -> u8
     ensures { λ r. ⌜ (r ≡ endMark b n) × (r < 2) ⌝ }
 {
-    if n == widened(b.unsent) {
+    if n == widened(b.reply.unsent) {
         return 1;
     }
     0
@@ -112,12 +117,12 @@ fn end_mark(b: BulkIn, n: usize) -> u8
 
 // D1, where the last of the N bytes is an enabled TermChar.
 fn term_mark(reply: &[u8], b: BulkIn, n: usize) -> u8
-    requires { ⌜ (0 < n) × (n ≤ b .unsent) × (b .at + b .unsent ≤ length (now reply)) ⌝ }
+    requires { ⌜ (0 < n) × (n ≤ b .reply .unsent) × (b .reply .at + b .reply .unsent ≤ length (now reply)) ⌝ }
     ensures { λ r. ⌜ (r ≡ termMark b (unsentIn b (now (reply .entry))) n) × (r < 3) ⌝ }
 {
-    if b.enabled == 1 {
-        let last = widened(b.at) + (n - 1);
-        if reply[last] == b.term {
+    if b.transfer.enabled == 1 {
+        let last = widened(b.reply.at) + (n - 1);
+        if reply[last] == b.transfer.term {
             return 2;
         }
         return 0;
@@ -127,130 +132,116 @@ fn term_mark(reply: &[u8], b: BulkIn, n: usize) -> u8
 
 // The transfer with N fixed.
 fn fixed(reply: &[u8], b: BulkIn) -> BulkIn
-    requires { ⌜ b .at + b .unsent ≤ length (now reply) ⌝ }
+    requires { ⌜ b .reply .at + b .reply .unsent ≤ length (now reply) ⌝ }
     ensures { λ r. ⌜ r ≡ fixed b (unsentIn b (now (reply .entry))) ⌝ }
 {
     let left = sendable(reply, b) as u16;
-    BulkIn {
-        at: b.at,
-        unsent: b.unsent,
-        asked: 0,
-        left,
-        sent: 0,
-        enabled: 0,
-        term: 0,
-        phase: SENDING,
-        tag: b.tag,
-        halted: b.halted,
-        recent: b.recent,
-    }
+    let stored = b.reply;
+    carrying(b, stored, sending_in(b.transfer.tag, left, 0))
 }
 
 // `count` data bytes have gone.
 fn gone(b: BulkIn, count: usize) -> BulkIn
-    requires { ⌜ Going b × (count ≤ b .left) ⌝ }
+    requires { ⌜ Going b × (count ≤ b .transfer .left) ⌝ }
     ensures { λ r. ⌜ r ≡ gone b count ⌝ }
 {
     let n = count as u16;
-    let mut next = b;
-    next.at = b.at + n;
-    next.unsent = b.unsent - n;
-    next.left = b.left - n;
-    next.sent = b.sent + n;
-    next
+    let reply = InReply {
+        at: b.reply.at + n,
+        unsent: b.reply.unsent - n,
+    };
+    let left = b.transfer.left - n;
+    let sent = b.transfer.sent + n;
+    carrying(b, reply, sending_in(b.transfer.tag, left, sent))
 }
 
-// What a packet leaves of the transfer b, once `count` data bytes of it have gone behind `front` header bytes.
-fn after_packet(st: State, b: BulkIn, front: usize, count: usize) -> Given
-    requires { ⌜ Going b × (count ≤ b .left) × (front ≤ 12) ⌝ }
-    ensures { λ r. ⌜ r ≡ afterPacket st b front count ⌝ }
+// What a packet of at most `p` bytes leaves of the side b, once `count` data bytes have gone behind `front` header bytes.
+fn after_packet(p: usize, b: BulkIn, front: usize, count: usize) -> InPacket
+    requires { ⌜ Going b × (count ≤ b .transfer .left) × (front ≤ 12) ⌝ }
+    ensures { λ r. ⌜ r ≡ afterPacket p b front count ⌝ }
 {
     let after = gone(b, count);
     let len = front + count;
-    if len < widened(st.small.port.setting.packet) {
-        let state = with_in(st, shut(after));
-        return Given {
-            state,
-            number: DONE,
-            tells: TELLS_NOTHING,
+    if len < p {
+        return InPacket {
+            side: shut(after),
             len,
         };
     }
-    let state = with_in(st, after);
-    Given {
-        state,
-        number: DONE,
-        tells: TELLS_NOTHING,
-        len,
-    }
+    InPacket { side: after, len }
 }
 
 // The data of a packet, behind its `front` header bytes.
-fn carry(reply: &[u8], st: State, b: BulkIn, front: usize, buf: &mut [u8]) -> Given
-    requires { ⌜ Going b × Fits st front (length (now buf)) × (front ≤ 12) × (1024 ≤ length (now reply)) ⌝ }
-    ensures { λ r. ⌜ (r ≡ afterPacket st b front (carried st b front)) × (now (buf .exit) ≡ paste (now (buf .entry)) front (drop (b .at) (now (reply .entry))) (carried st b front)) ⌝ }
+fn carry(reply: &[u8], p: usize, b: BulkIn, front: usize, buf: &mut [u8]) -> InPacket
+    requires { ⌜ Going b × Fits p front (length (now buf)) × (front ≤ 12) × (1024 ≤ length (now reply)) ⌝ }
+    ensures { λ r. ⌜ (r ≡ afterPacket p b front (carried p b front)) × (now (buf .exit) ≡ paste (now (buf .entry)) front (drop (b .reply .at) (now (reply .entry))) (carried p b front)) ⌝ }
 {
-    let room = widened(st.small.port.setting.packet) - front;
-    let count = least(room, widened(b.left));
-    copy_in(buf, front, reply, widened(b.at), count);
-    after_packet(st, b, front, count)
+    let count = least(p - front, widened(b.transfer.left));
+    copy_in(buf, front, reply, widened(b.reply.at), count);
+    after_packet(p, b, front, count)
 }
 
 // The first packet of a transfer: it fixes N, and has the header.
-fn first_packet(reply: &[u8], st: State, buf: &mut [u8]) -> Given
-    requires { ⌜ (st .small .bulkin .phase ≡ 1) × Starting (st .small .bulkin) × Fits st 12 (length (now buf)) × (1024 ≤ length (now reply)) ⌝ }
-    ensures { λ r. ⌜ Hands (send st (unsentIn (st .small .bulkin) (now (reply .entry)))) r (now (buf .entry)) (now (buf .exit)) ⌝ }
+fn first_packet(reply: &[u8], p: usize, b: BulkIn, buf: &mut [u8]) -> InPacket
+    requires { ⌜ (b .transfer .phase ≡ 1) × Starting b × Fits p 12 (length (now buf)) × (1024 ≤ length (now reply)) ⌝ }
+    ensures { λ r. ⌜ Cuts (send p b (unsentIn b (now (reply .entry)))) r (now (buf .entry)) (now (buf .exit)) ⌝ }
 {
-    let b = st.small.bulkin;
     let started = fixed(reply, b);
-    let n = widened(started.left);
+    let n = widened(started.transfer.left);
     let attributes = end_mark(b, n) + term_mark(reply, b, n);
-    write_header(buf, b.tag, n as u32, attributes);
-    carry(reply, st, started, HEADER, buf)
+    write_header(buf, b.transfer.tag, n as u32, attributes);
+    carry(reply, p, started, HEADER, buf)
 }
 
 // A packet of the open transfer.
-fn packet(reply: &[u8], st: State, buf: &mut [u8]) -> Given
-    requires { ⌜ CanSend st (length (now buf)) × (1024 ≤ length (now reply)) ⌝ }
-    ensures { λ r. ⌜ Hands (send st (unsentIn (st .small .bulkin) (now (reply .entry)))) r (now (buf .entry)) (now (buf .exit)) ⌝ }
+fn packet(reply: &[u8], p: usize, b: BulkIn, buf: &mut [u8]) -> InPacket
+    requires { ⌜ CanSend p b (length (now buf)) × (1024 ≤ length (now reply)) ⌝ }
+    ensures { λ r. ⌜ Cuts (send p b (unsentIn b (now (reply .entry)))) r (now (buf .entry)) (now (buf .exit)) ⌝ }
 {
-    let b = st.small.bulkin;
-    if b.phase == ASKED {
-        return first_packet(reply, st, buf);
+    if b.transfer.phase == ASKED {
+        return first_packet(reply, p, b, buf);
     }
-    carry(reply, st, b, 0, buf)
+    carry(reply, p, b, 0, buf)
 }
 
-// A poll, whose packet is cut from a store that begins with the reply.
-pub fn poll_from(reply: &[u8], st: State, b: &mut [u8]) -> Given
-    requires { ⌜ 1024 ≤ length (now reply) ⌝ }
+// The next packet of at most `p` bytes, cut from a store that begins with the reply.
+pub fn next_packet(reply: &[u8], p: usize, b: BulkIn, buf: &mut [u8]) -> InPacket
+    requires { ⌜ CanPoll p b (length (now buf)) × (1024 ≤ length (now reply)) ⌝ }
+    ensures { λ r. ⌜ Cuts (nextPacket p b (unsentIn b (now (reply .entry)))) r (now (buf .entry)) (now (buf .exit)) ⌝ }
+{
+    if b.transfer.phase == OWED {
+        return InPacket {
+            side: shut(b),
+            len: 0,
+        };
+    }
+    packet(reply, p, b, buf)
+}
+
+fn poll_from(reply: &[u8], st: State, b: &mut [u8]) -> Given
+    requires { ⌜ (1024 ≤ length (now reply)) × (sound st ≡ true) ⌝ }
     ensures { λ r. ⌜ Hands (poll st (unsentIn (st .small .bulkin) (now (reply .entry))) (length (now (b .entry)))) r (now (b .entry)) (now (b .exit)) ⌝ }
 {
     let number = in_gate(st, b.len());
     if number != 0 {
-        return Given {
-            state: st,
-            number,
-            tells: TELLS_NOTHING,
-            len: 0,
-        };
+        return given(st, number);
     }
     let side = st.small.bulkin;
-    if side.phase == OWED {
-        let state = with_in(st, shut(side));
-        return Given {
-            state,
-            number: DONE,
-            tells: TELLS_NOTHING,
-            len: 0,
-        };
+    let packet = next_packet(reply, widened(st.small.port.setting.packet), side, b);
+    let after = packet.side;
+    Given {
+        state: with_in(st, after),
+        verdict: only(DONE),
+        len: packet.len,
     }
-    packet(reply, st, b)
 }
 
 // The step that the by-value call and the in-place form share.
 pub fn poll_step(reply: &[u8; 1024], st: State, b: &mut [u8]) -> Given
-    ensures { λ r. ⌜ Hands (poll st (unsentIn (st .small .bulkin) (now (reply .entry))) (length (now (b .entry)))) r (now (b .entry)) (now (b .exit)) ⌝ }
+    ensures { λ r. ⌜ Hands (pick (sound st) (poll st (unsentIn (st .small .bulkin) (now (reply .entry))) (length (now (b .entry)))) (refuse st 1)) r (now (b .entry)) (now (b .exit)) ⌝ }
 {
-    poll_from(reply, st, b)
+    if sound(st) {
+        return poll_from(reply, st, b);
+    }
+    given(st, UNSOUND)
 }

@@ -14,14 +14,13 @@ use Rattle.rules.specs.Choice.{_=ᵇ_, _<ᵇ_, no, _or_, pick, _⇒_∣_, decid
 use Rattle.rules.specs.Answers.{DONE}
 use Rattle.rules.proofs.Choice.{pick-all, pick-both, decide-both, at-true, at-false, no-false}
 use Rattle.port.specs.Parts.{STORE, ASKED, on, packetSize, outOf, inOf, withOut, withIn, broken, haltedOut, shut}
-use Rattle.port.specs.In.{Answer, Said, number, says, fixed, header, started, toGo, gone, send}
 use Rattle.port.specs.Device.{Device, Result, isSound, withState, heldOf, unsentOf, zeroed}
 use Rattle.port.specs.Calls.{refused, said}
 use Rattle.port.specs.Live.{Live, atFront, live, alive}
 use Rattle.port.specs.Laws.{Stored}
 use Rattle.port.specs.declared.types.BulkIn.{BulkIn}
 use Rattle.port.specs.declared.types.State.{State}
-use Rattle.port.proofs.Soundness.{Sound, phase-kept, sound-of, sound-to}
+use Rattle.port.proofs.Soundness.{Sound}
 use Rattle.port.proofs.KeepsOut.{out-held}
 use Rattle.port.proofs.KeepsIn.{clears, in-split}
 
@@ -41,20 +40,20 @@ drop-take (suc k) (suc n) (x ∷ l) = let e : n - k ≡ suc n - suc k = omega ar
 -- ** the live part of a sound unit
 
 module _ (u : Device) (stored : Stored u) (h : Sound (u .state)) where
-  pub held-length : length (heldOf u) ≡ outOf (u .state) .held
-  held-length = length-take-le (outOf (u .state) .held) (u .message) (let a = stored .message in let b = out-held (u .state) h in omega arith)
+  pub held-length : length (heldOf u) ≡ outOf (u .state) .message .held
+  held-length = length-take-le (outOf (u .state) .message .held) (u .message) (let a = stored .message in let b = out-held (u .state) h in omega arith)
 
-  pub unsent-length : length (unsentOf u) ≡ inOf (u .state) .unsent
-  unsent-length = length-take-le (inOf (u .state) .unsent) (drop (inOf (u .state) .at) (u .reply)) (let a = stored .reply in let b = h .inward .reply in let c = length-drop (inOf (u .state) .at) (u .reply) in omega arith)
+  pub unsent-length : length (unsentOf u) ≡ inOf (u .state) .reply .unsent
+  unsent-length = length-take-le (inOf (u .state) .reply .unsent) (drop (inOf (u .state) .reply .at) (u .reply)) (let a = stored .reply in let b = h .inward .reply in let c = length-drop (inOf (u .state) .reply .at) (u .reply) in omega arith)
 
   -- the bytes of the live part stand at the front
   pub held-alive : heldOf (alive (live u)) ≡ heldOf u
   unfolding alive live
-  held-alive = take-at (heldOf u) (drop (length (heldOf u)) zeroed) (outOf (u .state) .held) held-length
+  held-alive = take-at (heldOf u) (drop (length (heldOf u)) zeroed) (outOf (u .state) .message .held) held-length
 
   pub unsent-alive : unsentOf (alive (live u)) ≡ unsentOf u
   unfolding alive live
-  unsent-alive = take-at (unsentOf u) (drop (length (unsentOf u)) zeroed) (inOf (u .state) .unsent) unsent-length
+  unsent-alive = take-at (unsentOf u) (drop (length (unsentOf u)) zeroed) (inOf (u .state) .reply .unsent) unsent-length
 
   filled : (l : List ℕ) → length l ≤ STORE → length (l ++ drop (length l) zeroed) ≡ STORE
   unfolding zeroed
@@ -79,7 +78,7 @@ module _ (u : Device) (stored : Stored u) (h : Sound (u .state)) where
     inward = record {
       halted = h .inward .halted;
       reply = let r = h .inward .reply in omega arith;
-      phase = phase-kept (inOf (u .state)) _ (record { phase = refl; tag = refl; asked = refl; enabled = refl; term = refl; left = refl; sent = refl; unsent = λ _. refl }) (h .inward .phase);
+      phase = h .inward .phase;
     };
     split = in-split (u .state .split) _ (inOf (u .state)) _ (h .split) (λ e. e) (λ e. let c = clears (u .state) h e in (c .unsent, c .in-tag, c .phase));
   }
@@ -98,35 +97,35 @@ rest : (l : List ℕ) (n a m : ℕ) → take (n - m) (drop (a + m) l) ≡ drop m
 rest l n a m = ap (take (n - m)) (sym (drop-drop m a l)) ∙ sym (drop-take m n (drop a l))
 
 -- what the live part says of the counts
-twin-held : (u : Device) (j : ℕ) → j ≤ outOf (u .state) .held → take j (heldOf (alive (live u))) ≡ take j (alive (live u) .message)
+twin-held : (u : Device) (j : ℕ) → j ≤ outOf (u .state) .message .held → take j (heldOf (alive (live u))) ≡ take j (alive (live u) .message)
 unfolding alive live
-twin-held u j e = take-take j (outOf (u .state) .held) _ e
+twin-held u j e = take-take j (outOf (u .state) .message .held) _ e
 
-twin-rest : (u : Device) (k : ℕ) → take (inOf (u .state) .unsent - k) (drop (inOf (alive (live u) .state) .at + k) (alive (live u) .reply)) ≡ drop k (unsentOf (alive (live u)))
+twin-rest : (u : Device) (k : ℕ) → take (inOf (u .state) .reply .unsent - k) (drop (inOf (alive (live u) .state) .reply .at + k) (alive (live u) .reply)) ≡ drop k (unsentOf (alive (live u)))
 unfolding alive live
-twin-rest u k = rest _ (inOf (u .state) .unsent) 0 k
+twin-rest u k = rest _ (inOf (u .state) .reply .unsent) 0 k
 
 module _ (u : Device) (stored : Stored u) (h : Sound (u .state)) where
   abbrev pub twin : Device
   twin = alive (live u)
 
   -- any beginning of the message, and what is left of the reply
-  pub same-message : (j : ℕ) → j ≤ outOf (u .state) .held → take j (u .message) ≡ take j (twin .message)
+  pub same-message : (j : ℕ) → j ≤ outOf (u .state) .message .held → take j (u .message) ≡ take j (twin .message)
   same-message j e =
-      sym (take-take j (outOf (u .state) .held) (u .message) e) ∙ ap (take j) (sym (held-alive u stored h)) ∙ twin-held u j e
+      sym (take-take j (outOf (u .state) .message .held) (u .message) e) ∙ ap (take j) (sym (held-alive u stored h)) ∙ twin-held u j e
 
-  pub same-reply : (k : ℕ) → take (inOf (u .state) .unsent - k) (drop (inOf (u .state) .at + k) (u .reply)) ≡ take (inOf (u .state) .unsent - k) (drop (inOf (twin .state) .at + k) (twin .reply))
-  same-reply k = rest (u .reply) (inOf (u .state) .unsent) (inOf (u .state) .at) k ∙ ap (drop k) (sym (unsent-alive u stored h)) ∙ sym (twin-rest u k)
+  pub same-reply : (k : ℕ) → take (inOf (u .state) .reply .unsent - k) (drop (inOf (u .state) .reply .at + k) (u .reply)) ≡ take (inOf (u .state) .reply .unsent - k) (drop (inOf (twin .state) .reply .at + k) (twin .reply))
+  same-reply k = rest (u .reply) (inOf (u .state) .reply .unsent) (inOf (u .state) .reply .at) k ∙ ap (drop k) (sym (unsent-alive u stored h)) ∙ sym (twin-rest u k)
 
   -- states that differ in the place of the reply alone, over the stores of the two
-  pub agree : (st₁ st₂ : State) → withIn st₁ (atFront (inOf st₁)) ≡ withIn st₂ (atFront (inOf st₂)) → take (outOf st₁ .held) (u .message) ≡ take (outOf st₂ .held) (twin .message)
-      → take (inOf st₁ .unsent) (drop (inOf st₁ .at) (u .reply)) ≡ take (inOf st₂ .unsent) (drop (inOf st₂ .at) (twin .reply)) → live (withState u st₁) ≡ live (withState twin st₂)
+  pub agree : (st₁ st₂ : State) → withIn st₁ (atFront (inOf st₁)) ≡ withIn st₂ (atFront (inOf st₂)) → take (outOf st₁ .message .held) (u .message) ≡ take (outOf st₂ .message .held) (twin .message)
+      → take (inOf st₁ .reply .unsent) (drop (inOf st₁ .reply .at) (u .reply)) ≡ take (inOf st₂ .reply .unsent) (drop (inOf st₂ .reply .at) (twin .reply)) → live (withState u st₁) ≡ live (withState twin st₂)
   unfolding live
   agree st₁ st₂ e m r = λ i. record { state = e i; message = m i; reply = r i }
 
   -- ** nothing changes
 
-  pub all-reply : take (inOf (u .state) .unsent) (drop (inOf (u .state) .at) (u .reply)) ≡ take (inOf (twin .state) .unsent) (drop (inOf (twin .state) .at) (twin .reply))
+  pub all-reply : take (inOf (u .state) .reply .unsent) (drop (inOf (u .state) .reply .at) (u .reply)) ≡ take (inOf (twin .state) .reply .unsent) (drop (inOf (twin .state) .reply .at) (twin .reply))
   unfolding alive live
   all-reply = sym (unsent-alive u stored h)
 

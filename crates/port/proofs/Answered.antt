@@ -10,7 +10,7 @@ use lib.ListN.{replicate}
 use Rattle.rules.specs.Answers.{DONE, UNSOUND}
 use Rattle.wire.specs.Header.{OFF}
 use Rattle.port.specs.Device.{Device, Result, isSound, made, powerOn}
-use Rattle.port.specs.Step.{Call, setup-packet, out-packet, in-poll, take-into, offer-reply, set-status, front-panel, bus-reset, bus-suspend, step, after}
+use Rattle.port.specs.Step.{in-poll, offer-reply, set-status, front-panel, bus-suspend, Call, out-packet, take-into, bus-reset, quiet, setup-of, step, after}
 use Rattle.port.specs.Lists.{Kind, setup, out, poll, taking, offering, status, panel, reset, suspending, kindOf, own}
 use Rattle.port.specs.Laws.{OneOf, Reachable, Answered, EachAnswered}
 use Rattle.port.specs.Cases.{packet, message, request}
@@ -32,7 +32,7 @@ callOf (on-unsound c) = c
 
 -- SET_CONFIGURATION 1
 abbrev configure : Call
-configure = setup-packet (0x00 ∷ 9 ∷ 1 ∷ 0 ∷ 0 ∷ 0 ∷ 0 ∷ 0 ∷ []) 24
+configure = setup-of (0x00 ∷ 9 ∷ 1 ∷ 0 ∷ 0 ∷ 0 ∷ 0 ∷ 0 ∷ []) 24
 
 abbrev behind : List Call → Device
 behind calls = after step (powerOn (record { packet = 64 }) .unit) calls
@@ -45,7 +45,7 @@ unitOf (on-unsound c) = made (record { packet = 7 }) OFF
 
 -- a halt of an endpoint, by the host
 abbrev halt : ℕ → Call
-halt endpoint = setup-packet (0x02 ∷ 3 ∷ 0 ∷ 0 ∷ endpoint ∷ 0 ∷ 0 ∷ 0 ∷ []) 24
+halt endpoint = setup-of (0x02 ∷ 3 ∷ 0 ∷ 0 ∷ endpoint ∷ 0 ∷ 0 ∷ 0 ∷ []) 24
 
 -- a message of one byte with EOM, and one without
 abbrev whole : Call
@@ -58,10 +58,10 @@ half = message 1 1 0 (7 ∷ 0 ∷ 0 ∷ 0 ∷ [])
 
 unfoldable witnesses : Kind → List Witness
 witnesses setup =
-    on-fresh (setup-packet (0x00 ∷ 9 ∷ 1 ∷ 0 ∷ 0 ∷ 0 ∷ 0 ∷ 0 ∷ []) 24)
-    ∷ on-unsound (setup-packet [] 24)
-    ∷ on-fresh (setup-packet [] 24)
-    ∷ on-fresh (setup-packet (replicate 8 0) 24)
+    on-fresh (setup-of (0x00 ∷ 9 ∷ 1 ∷ 0 ∷ 0 ∷ 0 ∷ 0 ∷ 0 ∷ []) 24)
+    ∷ on-unsound (setup-of [] 24)
+    ∷ on-fresh (setup-of [] 24)
+    ∷ on-fresh (setup-of (replicate 8 0) 24)
     ∷ []
 witnesses out =
     on-behind [] (out-packet [])
@@ -81,12 +81,12 @@ witnesses out =
     ∷ on-behind [] (message 1 1 1 (7 ∷ 0 ∷ 0 ∷ 1 ∷ []))
     ∷ []
 witnesses poll =
-    on-behind (offer-reply (7 ∷ []) ∷ request 1 1 ∷ []) (in-poll 64)
-    ∷ on-unsound (in-poll 64)
-    ∷ on-fresh (in-poll 64)
-    ∷ on-behind [] (in-poll 63)
-    ∷ on-behind (halt 0x82 ∷ []) (in-poll 64)
-    ∷ on-behind [] (in-poll 64)
+    on-behind (quiet (offer-reply (7 ∷ [])) ∷ request 1 1 ∷ []) (quiet (in-poll 64))
+    ∷ on-unsound (quiet (in-poll 64))
+    ∷ on-fresh (quiet (in-poll 64))
+    ∷ on-behind [] (quiet (in-poll 63))
+    ∷ on-behind (halt 0x82 ∷ []) (quiet (in-poll 64))
+    ∷ on-behind [] (quiet (in-poll 64))
     ∷ []
 witnesses taking =
     on-behind (whole ∷ []) (take-into 1)
@@ -96,22 +96,22 @@ witnesses taking =
     ∷ on-behind (whole ∷ []) (take-into 0)
     ∷ []
 witnesses offering =
-    on-behind [] (offer-reply (7 ∷ []))
-    ∷ on-unsound (offer-reply (7 ∷ []))
-    ∷ on-fresh (offer-reply (7 ∷ []))
-    ∷ on-behind [] (offer-reply [])
-    ∷ on-behind (offer-reply (7 ∷ []) ∷ []) (offer-reply (7 ∷ []))
+    on-behind [] (quiet (offer-reply (7 ∷ [])))
+    ∷ on-unsound (quiet (offer-reply (7 ∷ [])))
+    ∷ on-fresh (quiet (offer-reply (7 ∷ [])))
+    ∷ on-behind [] (quiet (offer-reply []))
+    ∷ on-behind (quiet (offer-reply (7 ∷ [])) ∷ []) (quiet (offer-reply (7 ∷ [])))
     ∷ []
-witnesses status = on-behind [] (set-status 0) ∷ on-unsound (set-status 0) ∷ on-fresh (set-status 0) ∷ []
-witnesses panel = on-behind [] front-panel ∷ on-unsound front-panel ∷ on-fresh front-panel ∷ []
+witnesses status = on-behind [] (quiet (set-status 0)) ∷ on-unsound (quiet (set-status 0)) ∷ on-fresh (quiet (set-status 0)) ∷ []
+witnesses panel = on-behind [] (quiet front-panel) ∷ on-unsound (quiet front-panel) ∷ on-fresh (quiet front-panel) ∷ []
 witnesses reset = on-fresh bus-reset ∷ on-unsound bus-reset ∷ []
-witnesses suspending = on-fresh bus-suspend ∷ on-unsound bus-suspend ∷ []
+witnesses suspending = on-fresh (quiet bus-suspend) ∷ on-unsound (quiet bus-suspend) ∷ []
 
 -- ** they answer what the list says
 
 abbrev numbers : List Witness → List ℕ
 numbers [] = []
-numbers (w ∷ ws) = step (unitOf w) (callOf w) .answer .number ∷ numbers ws
+numbers (w ∷ ws) = step (unitOf w) (callOf w) .answer .verdict .number ∷ numbers ws
 
 -- all are of the kind
 abbrev Fitting : Kind → List Witness → Type 0
@@ -146,11 +146,11 @@ not-seven : isSound (made (record { packet = 7 }) OFF) ≡ false
 unfolding computed
 not-seven = refl
 
-reachable : (w : Witness) → (step (unitOf w) (callOf w) .answer .number ≡ UNSOUND) ⊎ Reachable step (unitOf w)
+reachable : (w : Witness) → (step (unitOf w) (callOf w) .answer .verdict .number ≡ UNSOUND) ⊎ Reachable step (unitOf w)
 unfolding after
 reachable (on-fresh c) = inr (record { setting = record { packet = 64 }; calls = []; made = refl })
 reachable (on-behind before c) = inr (record { setting = record { packet = 64 }; calls = configure ∷ before; made = refl })
-reachable (on-unsound c) = inl (ap (λ (r : Result). r .answer .number) (unsound-refused (made (record { packet = 7 }) OFF) c not-seven))
+reachable (on-unsound c) = inl (ap (λ (r : Result). r .answer .verdict .number) (unsound-refused (made (record { packet = 7 }) OFF) c not-seven))
 
 found : (k : Kind) (n : ℕ) (ws : List Witness) → Fitting k ws → OneOf n (numbers ws) → Answered step k n
 found k n (w ∷ ws) a (inl e) = record { unit = unitOf w; call = callOf w; kind = a .0; gives = sym e; reached = ⊎-elim (λ z. inl (e ∙ z)) inr (reachable w) }

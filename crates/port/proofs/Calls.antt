@@ -7,34 +7,32 @@ use mathlib.Core.Bool.{Bool, true, false, cond, true≢false}
 use mathlib.Core.List.{List, [], _∷_}
 use mathlib.Core.Logic.{_⊎_, inl, inr, ⊎-elim}
 use native.Mathlib.Omega.{arith}
-use lib.ListN.{length, take, drop, length-replicate, length-drop}
+use lib.ListN.{length, drop, length-replicate, length-drop}
 use lib.Dec.{T, eqb}
 use lib.Seq.{paste, paste-zero, length-paste}
-use borrow.Author.Tests.{eqb-true, eqb-false, ltb-false}
-use Rattle.rules.specs.Choice.{_=ᵇ_, no, pick, decide}
-use Rattle.rules.specs.Answers.{DONE, UNSOUND, UNCONFIGURED, WRONG-SIZE, HALTED, WAIT, NOT-IN-FOURS, SHORT-HEADER, BAD-TAG, UNKNOWN-MSGID, RESERVED, WRONG-LENGTH, TOO-LONG, OUT-OF-TURN, MISALIGNED, NO-ROW, NOT-NOW, unchanged, out-halted, leaves}
-use Rattle.rules.proofs.Choice.{NoneOf, Each, pick-all, decide-all, at-true, at-false, no-true, no-false, not-no, none-left, none-right, neb-ne, eq-neb, or-left, is-no, not-both, decide-lines}
-use Rattle.wire.specs.Header.{HEADER, OFF, ON}
-use Rattle.wire.specs.Setup.{readSetup}
+use borrow.Author.Tests.{ne-eqb, eqb-true, eqb-false, ltb-false}
+use Rattle.rules.specs.Choice.{_=ᵇ_, pick, decide}
+use Rattle.rules.specs.Answers.{DONE, UNSOUND, UNCONFIGURED, WRONG-SIZE, HALTED, WAIT, NOT-IN-FOURS, SHORT-HEADER, BAD-TAG, UNKNOWN-MSGID, RESERVED, WRONG-LENGTH, TOO-LONG, OUT-OF-TURN, MISALIGNED, NO-ROW, NOT-NOW, unchanged, out-halted, leaves, only}
+use Rattle.rules.proofs.Choice.{Each, pick-all, decide-all, at-true, at-false, no-true, not-no, none-left, none-right, eq-neb, or-left, not-both, decide-lines}
+use Rattle.wire.specs.Header.{HEADER, OFF}
+use Rattle.wire.specs.Setup.{wValue, matches, row, toDevice, readSetup}
 use Rattle.wire.specs.declared.types.Header.{Header}
 use Rattle.wire.specs.declared.types.Header.the-variants.{Message, Request, Trigger}
-use Rattle.wire.specs.declared.types.Endpoint.the-variants.{Out, In}
 use Rattle.wire.specs.declared.types.Row.{Row}
 use Rattle.wire.specs.declared.types.Row.the-variants.{InitiateAbortBulkOut, CheckAbortBulkOutStatus, InitiateAbortBulkIn, CheckAbortBulkInStatus, InitiateClear, CheckClearStatus, GetCapabilities, IndicatorPulse, ReadStatusByte, RenControl, GoToLocal, LocalLockout, ClearFeature, SetFeature, GetStatus}
 use Rattle.wire.specs.declared.types.Setup.{Setup}
 use Rattle.wire.specs.declared.types.Setup.the-variants.{Configure, Asks, NoRow}
 use Rattle.wire.proofs.SetupLaws.{Configures, setup-configures}
-use Rattle.port.specs.Parts.{STORE, FULL-SPEED, isSize, CLOSED, OWED, on, isOwed, isOpenOut, isOpenIn, hasReply, isClear, outOf, inOf, isConfigured, withOut, withIn, withRemote, haltedOut, fresh, shut}
-use Rattle.port.specs.Sound.{sound}
-use Rattle.port.specs.Remote.{localNow}
+use Rattle.port.specs.Parts.{STORE, FULL-SPEED, isSize, CLOSED, OWED, isOwed, isOpenOut, isOpenIn, hasReply, isClear, portOf, outOf, inOf, packetSize, isConfigured, haltedOut}
+use Rattle.port.specs.Answer.{Said, number, refuse}
 use Rattle.port.specs.Out.{plain, outcome, planned, accepted, outPlan, dataLength}
-use Rattle.port.specs.In.{Answer, Said, number, refuse, says, inRules, nothingToSend, send, poll}
-use Rattle.port.specs.Rows.{abortRules, inTag, initiateAbortOut, initiateAbortIn, checkAbortOut, checkAbortIn, initiateClear, checkClear, answerRow}
-use Rattle.port.specs.Device.{Device, Result, isSound, withState, heldOf, unsentOf, zeroed, made, powerOn}
-use Rattle.port.specs.Calls.{refused, said, carriedOut, bulkOut, bulkIn, setupRules, served, wiped, answered, setup, takeRules, released, taking, take-message, offerRules, offered, offerPlan, withReply, offer, thermostatRules, statusSet, setStatus, returned, panel, busRules, busReset, suspended, suspend}
-use Rattle.port.specs.Step.{Call, setup-packet, out-packet, in-poll, take-into, offer-reply, set-status, front-panel, bus-reset, bus-suspend, step}
-use Rattle.port.specs.Lists.{bulk, faults, own, ownList}
-use Rattle.port.specs.Laws.{OneOf, Stored, PowerOnSound, PowerOnAnswers, Orders, KeepsSound, KeepsStored, UnsoundRefused, OnlyUnsound, OwnNumbers, LeftAs, LeavesTable}
+use Rattle.port.specs.In.{nothingToSend, inRules, poll}
+use Rattle.port.specs.Rows.{Reaction, answering, abortRules, outTag, inTag, initiateAbortOut, initiateAbortIn, checkAbortOut, checkAbortIn, initiateClear, checkClear, answerRow}
+use Rattle.port.specs.Device.{Device, Result, isSound, withState, unsentOf, zeroed, made, powerOn}
+use Rattle.port.specs.Calls.{refused, said, carriedOut, bulkOut, bulkIn, setupRules, asked, setupOutcome, renewed, answered, setup, takeRules, taking, take-message, offerRules, offerPlan, withReply, offer, thermostatRules, statusSet, setStatus, returned, panel, busReset, suspend}
+use Rattle.port.specs.Step.{Quiet, in-poll, offer-reply, set-status, front-panel, bus-suspend, Call, setup-packet, out-packet, take-into, bus-reset, quiet, quietly, soundly, step}
+use Rattle.port.specs.Lists.{bulk, faults, Kind, setup as setting-up, out, poll as polling, taking as takes, offering, status, panel as panels, reset, suspending, kindOf, own, ownList}
+use Rattle.port.specs.Laws.{OneOf, Stored, PowerOnSound, PowerOnAnswers, Orders, KeepsSound, KeepsStored, UnsoundRefused, OnlyUnsound, OwnNumbers, LeftAs, LeavesTable, Zeroed, Zeroes, SET-CONFIGURATION}
 use Rattle.port.specs.declared.types.Setting.{Setting}
 use Rattle.port.specs.declared.types.Split.{Split}
 use Rattle.port.specs.declared.types.Split.the-variants.{None, AbortOut, AbortIn, Clear}
@@ -42,10 +40,12 @@ use Rattle.port.specs.declared.types.State.{State}
 use Rattle.port.specs.declared.types.Plan.{Plan}
 use Rattle.port.specs.declared.types.Outcome.{Outcome}
 use Rattle.port.specs.declared.types.Outcome.the-variants.{Keep, Halt, Data, Accept}
+use Rattle.port.specs.declared.types.SetupOutcome.{SetupOutcome}
+use Rattle.port.specs.declared.types.SetupOutcome.the-variants.{Denies, Renews, Answers}
 use Rattle.port.proofs.Soundness.{Sound, sound-of, sound-to}
 use Rattle.port.proofs.Ways.{Passed, Continues, Heads, Ways, outcome-ways}
 use Rattle.port.proofs.KeepsOut.{cases, fresh-sound, halted-sound, data-sound, accept-sound}
-use Rattle.port.proofs.KeepsIn.{shut-in-sound, send-sound, row-sound, local-sound, status-sound, remote-sound, released-sound, offered-sound}
+use Rattle.port.proofs.KeepsIn.{packet-sound, row-sound, local-sound, status-sound, remote-sound, released-sound, offered-sound}
 
 -- ** power-on
 
@@ -68,41 +68,36 @@ power-on-answers setting =
 
 pub orders : Orders
 unfolding own
-orders st s h n = record { packets = refl; headers = refl; continuing = refl; polls = refl; setups = refl; takes = refl; offers = refl; panels = refl; buses = refl; aborts = refl }
+orders st s h n = record { packets = refl; headers = refl; continuing = refl; polls = refl; setups = refl; takes = refl; offers = refl; panels = refl; aborts = refl }
 
 -- ** an unsound unit
 
--- the first line of every list
-unsound-first : {B : Type 0} (f : ℕ → B) (t : Bool) (z : B) → t ≡ false → pick (no t) (f UNSOUND) z ≡ f UNSOUND
-unsound-first f t z e = at-true _ _ _ (no-true _ e)
+-- a plan that stores nothing is a refusal, of a packet and of a reply
+pub unplanned : (u : Device) (s : List ℕ) (n : ℕ) → carriedOut u s (plain (u .state) (only n)) ≡ refused u n
+unplanned u s n = ap (λ (m : List ℕ). record { unit = record { message = m; reply = u .reply; state = u .state }; answer = number n }) (sym (paste-zero (u .message) (outOf (u .state) .message .held) s))
 
--- a plan that keeps is a refusal
 pub kept : (u : Device) (s : List ℕ) (n : ℕ) → carriedOut u s (planned (u .state) (Keep n)) ≡ refused u n
 unfolding planned
-kept u s n = ap (λ (m : List ℕ). record { unit = record { message = m; reply = u .reply; state = u .state }; answer = number n }) (sym (paste-zero (u .message) (outOf (u .state) .held) s))
+kept u s n = unplanned u s n
 
--- a reply that is not taken is a refusal too
-pub unstored : (u : Device) (bytes : List ℕ) (n : ℕ) → withReply u bytes (plain (u .state) n) ≡ refused u n
+pub unstored : (u : Device) (bytes : List ℕ) (n : ℕ) → withReply u bytes (plain (u .state) (only n)) ≡ refused u n
 unstored u bytes n = ap (λ (m : List ℕ). record { unit = record { message = u .message; reply = m; state = u .state }; answer = number n }) (sym (paste-zero (u .reply) 0 bytes))
 
 pub unsound-refused : UnsoundRefused step
-unfolding step setup bulkOut outPlan outcome bulkIn poll take-message taking offer offerPlan setStatus statusSet panel returned busReset suspend suspended
-unsound-refused u (setup-packet s room) e = unsound-first (refused u) (isSound u) _ e
-unsound-refused u (out-packet s) e = ap (λ (x : Outcome). carriedOut u s (planned (u .state) x)) (unsound-first Keep (isSound u) _ e) ∙ kept u s UNSOUND
-unsound-refused u (in-poll room) e = ap (said u) (unsound-first (refuse (u .state)) (isSound u) _ e)
-unsound-refused u (take-into room) e = ap (said u) (unsound-first (refuse (u .state)) (isSound u) _ e)
-unsound-refused u (offer-reply bytes) e = ap (withReply u bytes) (unsound-first (plain (u .state)) (isSound u) _ e) ∙ unstored u bytes UNSOUND
-unsound-refused u (set-status status) e = ap (said u) (unsound-first (refuse (u .state)) (isSound u) _ e)
-unsound-refused u front-panel e = ap (said u) (unsound-first (refuse (u .state)) (isSound u) _ e)
-unsound-refused u bus-reset e = unsound-first (refused u) (isSound u) _ e
-unsound-refused u bus-suspend e = ap (said u) (unsound-first (refuse (u .state)) (isSound u) _ e)
+unfolding step
+unsound-refused u c e = at-false _ _ _ e
+
+-- and a sound one does what its call says
+pub step-sound : (u : Device) (c : Call) → isSound u ≡ true → step u c ≡ soundly u c
+unfolding step
+step-sound u c e = at-true _ _ _ e
 
 -- ** the ways that a call can go
 
 pub data Way (u : Device) (c : Call) : Result → Type 0 where
   refuses : (n : ℕ) → OneOf n (ownList c) → leaves n ≡ unchanged → (n ≡ UNSOUND → isSound u ≡ false) → Way u c (refused u n)
   halts : (n : ℕ) → OneOf n (ownList c) → leaves n ≡ out-halted → (n ≡ UNSOUND → ⊥) → Sound (u .state) → Way u c (refused (withState u (haltedOut (u .state))) n)
-  does : (r : Result) → r .answer .number ≡ DONE → Sound (r .unit .state) → (Stored u → Stored (r .unit)) → Way u c r
+  does : (r : Result) → r .answer .verdict .number ≡ DONE → Sound (r .unit .state) → (Stored u → Stored (r .unit)) → Way u c r
 
 -- membership, as a test that computes
 abbrev elem : ℕ → List ℕ → Bool
@@ -129,83 +124,84 @@ pub power-on-stored : (setting : Setting) → Stored (powerOn setting .unit)
 unfolding powerOn
 power-on-stored setting = pick-all (λ (r : Result). Stored (r .unit)) (isSize (setting .packet)) _ _ (λ _. zeroed-stored _ OFF) (λ _. zeroed-stored _ OFF)
 
-module _ (u : Device) (c : Call) where
-  -- the lines of a list of rules that keep: the first is 1
-  keeps : (n : ℕ) → OneOf n (ownList c) → leaves n ≡ unchanged → (n ≡ UNSOUND → ⊥) → Way u c (refused u n)
-  keeps n o l e = refuses n o l (λ z. absurd (e z))
+-- 1 stands in every list
+unsound-own : (k : Kind) → OneOf UNSOUND (own k)
+unfolding own
+unsound-own setting-up = inl refl
+unsound-own out = inl refl
+unsound-own polling = inl refl
+unsound-own takes = inl refl
+unsound-own offering = inl refl
+unsound-own status = inl refl
+unsound-own panels = inl refl
+unsound-own reset = inl refl
+unsound-own suspending = inl refl
 
-  first-line : OneOf UNSOUND (ownList c) → no (isSound u) ≡ true → Way u c (refused u UNSOUND)
-  unfolding leaves
-  first-line o e = refuses UNSOUND o refl (λ _. is-no _ e)
+-- a line of a list of rules that keeps
+keeps : (u : Device) (c : Call) (n : ℕ) → OneOf n (ownList c) → leaves n ≡ unchanged → (n ≡ UNSOUND → ⊥) → Way u c (refused u n)
+keeps u c n o l e = refuses n o l (λ z. absurd (e z))
 
-abbrev Zero : Said → Type 0
-Zero r = r .answer .number ≡ DONE
+abbrev Zero : Reaction → Type 0
+Zero r = r .answer .verdict .number ≡ DONE
 
 -- every row that is served is answered 0
-row-done : (st : State) (row : Row) → answerRow st row .answer .number ≡ DONE
+row-done : (st : State) (row : Row) → answerRow st row .answer .verdict .number ≡ DONE
 unfolding answerRow initiateAbortOut initiateAbortIn checkAbortOut checkAbortIn initiateClear checkClear
-row-done st (InitiateAbortBulkOut tag) = decide-all Zero (λ status. says st (status ∷ outOf st .recent ∷ [])) (abortRules (st .split) (isOpenOut (outOf st)) (outOf st .recent) tag) _ (refl, (refl, (refl, tt))) (λ _. refl)
+row-done st (InitiateAbortBulkOut tag) =
+    decide-all Zero (λ status. answering (status ∷ outTag (outOf st) ∷ [])) (abortRules (st .split) (isOpenOut (outOf st)) (outTag (outOf st)) tag) _ (refl, (refl, (refl, tt))) (λ _. refl)
 row-done st CheckAbortBulkOutStatus = by (st .split)
   where
-    by : (s : Split) → checkAbortOut st s .answer .number ≡ DONE
+    by : (s : Split) → checkAbortOut s .answer .verdict .number ≡ DONE
     by None = refl
     by (AbortOut count) = refl
     by (AbortIn count) = refl
     by Clear = refl
-row-done st (InitiateAbortBulkIn tag) = decide-all Zero (λ status. says st (status ∷ inTag (inOf st) ∷ [])) (abortRules (st .split) (isOpenIn (inOf st)) (inTag (inOf st)) tag) _ (refl, (refl, (refl, tt))) (λ _. refl)
+row-done st (InitiateAbortBulkIn tag) =
+    decide-all Zero (λ status. answering (status ∷ inTag (inOf st) ∷ [])) (abortRules (st .split) (isOpenIn (inOf st)) (inTag (inOf st)) tag) _ (refl, (refl, (refl, tt))) (λ _. refl)
 row-done st CheckAbortBulkInStatus = by (st .split)
   where
-    by : (s : Split) → checkAbortIn st s .answer .number ≡ DONE
+    by : (s : Split) → checkAbortIn (inOf st) s .answer .verdict .number ≡ DONE
     by None = refl
     by (AbortOut count) = refl
     by (AbortIn count) = pick-all Zero (isOwed (inOf st)) _ _ (λ _. refl) (λ _. refl)
     by Clear = refl
 row-done st InitiateClear = pick-all Zero (isClear (st .split)) _ _ (λ _. refl) (λ _. refl)
-row-done st CheckClearStatus = pick-all Zero (no (isClear (st .split))) _ _ (λ _. refl) (λ _. pick-all Zero (isOwed (inOf st)) _ _ (λ _. refl) (λ _. refl))
+row-done st CheckClearStatus = pick-all Zero _ _ _ (λ _. refl) (λ _. pick-all Zero (isOwed (inOf st)) _ _ (λ _. refl) (λ _. refl))
 row-done st GetCapabilities = refl
 row-done st IndicatorPulse = refl
 row-done st (ReadStatusByte tag) = refl
 row-done st (RenControl ren) = refl
 row-done st GoToLocal = refl
 row-done st LocalLockout = refl
-row-done st (ClearFeature Out) = refl
-row-done st (ClearFeature In) = refl
-row-done st (SetFeature Out) = refl
-row-done st (SetFeature In) = refl
-row-done st (GetStatus Out) = refl
-row-done st (GetStatus In) = refl
+row-done st (ClearFeature endpoint) = refl
+row-done st (SetFeature endpoint) = refl
+row-done st (GetStatus endpoint) = refl
 
--- a packet that goes is answered 0
-send-number : (st : State) (unsent : List ℕ) → send st unsent .answer .number ≡ DONE
-unfolding send
-send-number st unsent = refl
-
-module _ (u : Device) where
-  setup-way : (s : List ℕ) (room : ℕ) → Way u (setup-packet s room) (setup u s room)
-  unfolding setup own leaves answered served wiped made
-  setup-way s room =
-      let c = setup-packet s room in
-      decide-lines (Way u c) (refused u) (setupRules (u .state) (length s) room) _
-      (first-line u c (one UNSOUND (ownList c) tt), (λ _. keeps u c WRONG-SIZE (one WRONG-SIZE (ownList c) tt) refl (λ e. omega arith), tt))
-      (λ n. by (not-no _ (n .0)) (readSetup s) (setup-configures s))
+module _ (u : Device) (h : Sound (u .state)) where
+  setup-way : (s : List ℕ) (room : ℕ) (c : Call) → kindOf c ≡ setting-up → Way u c (setup u s room)
+  unfolding setup setupOutcome answered asked own leaves made
+  setup-way s room c k =
+      decide-lines (λ (x : SetupOutcome). Way u c (answered u x)) Denies (setupRules (length s) room) _
+      (λ _. keeps u c WRONG-SIZE (rw k (inr (inl refl))) refl (λ e. omega arith), tt)
+      (λ _. by (readSetup s) (setup-configures s))
     where
-      no-row : Way u (setup-packet s room) (refused u NO-ROW)
-      no-row = keeps u (setup-packet s room) NO-ROW (one NO-ROW (ownList (setup-packet s room)) tt) refl (λ e. omega arith)
+      no-row : Way u c (refused u NO-ROW)
+      no-row = keeps u c NO-ROW (rw k (inr (inr (inl refl)))) refl (λ e. omega arith)
 
-      by : isSound u ≡ true → (x : Setup) → Configures x → Way u (setup-packet s room) (answered u x)
-      by h (Configure value) k = does _ refl (fresh-sound (u .state .small .port .setting) value (sound-of _ h .port .size) k) (λ _. zeroed-stored (u .state .small .port .setting) value)
-      by h (Asks row) k = pick-all (λ (r : Said). Way u (setup-packet s room) (said u r)) (isConfigured (u .state)) _ _ (λ _. does _ (row-done (u .state) row) (row-sound (u .state) (sound-of _ h) row) (stays u _)) (λ _. no-row)
-      by h NoRow k = no-row
+      by : (x : Setup) → Configures x → Way u c (answered u (asked (u .state) x))
+      by (Configure value) k = does _ refl (fresh-sound (portOf (u .state) .setting) value (h .port .size) k) (λ _. zeroed-stored (portOf (u .state) .setting) value)
+      by (Asks row) k = pick-all (λ (x : SetupOutcome). Way u c (answered u x)) (isConfigured (u .state)) _ _ (λ _. does _ (row-done (u .state) row) (row-sound (u .state) h row) (stays u _)) (λ _. no-row)
+      by NoRow k = no-row
 
   -- ** Bulk-OUT
 
   -- the store keeps its length, whatever is put into it
-  put-stored : (s : List ℕ) (from count : ℕ) (st : State) → ((count ≡ 0 → ⊥) → outOf (u .state) .held + count ≤ STORE) → from + count ≤ length s → Stored u
-      → Stored (record { message = paste (u .message) (outOf (u .state) .held) (drop from s) count; reply = u .reply; state = st })
+  put-stored : (s : List ℕ) (from count : ℕ) (st : State) → ((count ≡ 0 → ⊥) → outOf (u .state) .message .held + count ≤ STORE) → from + count ≤ length s → Stored u
+      → Stored (record { message = paste (u .message) (outOf (u .state) .message .held) (drop from s) count; reply = u .reply; state = st })
   put-stored s from count st room fits h = record {
     message = ⊎-elim
-        (λ e. let z = eqb-true count 0 e in ap length (sym (subst (λ (n : ℕ). u .message ≡ paste (u .message) (outOf (u .state) .held) (drop from s) n) (sym z) (paste-zero (u .message) (outOf (u .state) .held) (drop from s)))) ∙ h .message)
-        (λ e. let r = room (eqb-false count 0 e) in length-paste (u .message) (outOf (u .state) .held) (drop from s) count (let l = h .message in omega arith) (let l = length-drop from s in omega arith) ∙ h .message)
+        (λ e. let z = eqb-true count 0 e in ap length (sym (subst (λ (n : ℕ). u .message ≡ paste (u .message) (outOf (u .state) .message .held) (drop from s) n) (sym z) (paste-zero (u .message) (outOf (u .state) .message .held) (drop from s)))) ∙ h .message)
+        (λ e. let r = room (eqb-false count 0 e) in length-paste (u .message) (outOf (u .state) .message .held) (drop from s) count (let l = h .message in omega arith) (let l = length-drop from s in omega arith) ∙ h .message)
         (cases (count =ᵇ 0));
     reply = h .reply;
   }
@@ -213,7 +209,7 @@ module _ (u : Device) where
   -- a plan that halts does nothing else
   pub halted : (s : List ℕ) (n : ℕ) → carriedOut u s (planned (u .state) (Halt n)) ≡ refused (withState u (haltedOut (u .state))) n
   unfolding planned
-  halted s n = ap (λ (m : List ℕ). record { unit = record { message = m; reply = u .reply; state = haltedOut (u .state) }; answer = number n }) (sym (paste-zero (u .message) (outOf (u .state) .held) s))
+  halted s n = ap (λ (m : List ℕ). record { unit = record { message = m; reply = u .reply; state = haltedOut (u .state) }; answer = number n }) (sym (paste-zero (u .message) (outOf (u .state) .message .held) s))
 
   module _ (s : List ℕ) where
     abbrev packet : Call
@@ -230,59 +226,55 @@ module _ (u : Device) where
     unfolding own
     stays-way n o l e = keep-way n (keeps u packet n (one n (bulk faults) o) l e)
 
-    halt-way : Sound (u .state) → (n : ℕ) → T (elem n (bulk faults)) → leaves n ≡ out-halted → (n ≡ UNSOUND → ⊥) → Q (Halt n)
+    halt-way : (n : ℕ) → T (elem n (bulk faults)) → leaves n ≡ out-halted → (n ≡ UNSOUND → ⊥) → Q (Halt n)
     unfolding Q own
-    halt-way h n o l e = subst (Way u packet) (sym (halted s n)) (halts n (one n (bulk faults) o) l e h)
+    halt-way n o l e = subst (Way u packet) (sym (halted s n)) (halts n (one n (bulk faults) o) l e h)
 
-    data-way : Continues (u .state) s → Q (Data (min (outOf (u .state) .left) (length s)))
+    data-way : Continues (u .state) s → Q (Data (min (outOf (u .state) .transfer .left) (length s)))
     unfolding Q planned
     data-way c =
-        let h = sound-of _ (c .passed .is-sound) .out in
-        does _ refl (data-sound (u .state) s c) (put-stored s 0 (min (outOf (u .state) .left) (length s)) _ (λ _. ⊎-elim (λ w. let r = w .1 .room in omega arith) (λ w. absurd (c .is-open (w .0))) h) (omega arith))
+        does _ refl (data-sound (u .state) s h c) (put-stored s 0 (min (outOf (u .state) .transfer .left) (length s)) _ (λ _. ⊎-elim (λ w. let r = w .1 .room in omega arith) (λ w. absurd (c .is-open (w .0))) (h .out)) (omega arith))
 
-    head-way : (h : Header) → Heads (u .state) s h → Q (Accept h (min (dataLength h) (length s - HEADER)))
+    head-way : (x : Header) → Heads (u .state) s x → Q (Accept x (min (dataLength x) (length s - HEADER)))
     unfolding Q planned accepted
     head-way (Message tag size end) c =
-        let room : outOf (u .state) .held + size ≤ STORE = ltb-false _ _ (c .none .1 .0) in
+        let room : outOf (u .state) .message .held + size ≤ STORE = ltb-false _ _ (c .none .1 .0) in
         let long = c .reads .0 in
-        does _ refl (accept-sound (u .state) s (Message tag size end) c) (put-stored s HEADER (min size (length s - HEADER)) _ (λ _. omega arith) (omega arith))
-    head-way (Request tag size enabled term) c = does _ refl (accept-sound (u .state) s (Request tag size enabled term) c) (put-stored s 0 0 _ (λ e. absurd (e refl)) (omega arith))
-    head-way (Trigger tag) c = does _ refl (accept-sound (u .state) s (Trigger tag) c) (put-stored s 0 0 _ (λ e. absurd (e refl)) (omega arith))
+        does _ refl (accept-sound (u .state) s h (Message tag size end) c) (put-stored s HEADER (min size (length s - HEADER)) _ (λ _. omega arith) (omega arith))
+    head-way (Request tag size enabled term) c = does _ refl (accept-sound (u .state) s h (Request tag size enabled term) c) (put-stored s 0 0 _ (λ e. absurd (e refl)) (omega arith))
+    head-way (Trigger tag) c = does _ refl (accept-sound (u .state) s h (Trigger tag) c) (put-stored s 0 0 _ (λ e. absurd (e refl)) (omega arith))
 
     out-way : Way u packet (bulkOut u s)
     unfolding bulkOut outPlan Q own leaves
     out-way = outcome-ways (u .state) s Q (record {
       keeps = (
-        λ e. keep-way UNSOUND (refuses UNSOUND (one UNSOUND (bulk faults) tt) refl (λ _. is-no _ e)),
+        λ _. stays-way UNCONFIGURED tt refl (λ e. omega arith),
         (
-          λ _. stays-way UNCONFIGURED tt refl (λ e. omega arith),
+          λ _. stays-way WRONG-SIZE tt refl (λ e. omega arith),
           (
-            λ _. stays-way WRONG-SIZE tt refl (λ e. omega arith),
-            (
-              λ _. stays-way HALTED tt refl (λ e. omega arith),
-              (λ _. stays-way WAIT tt refl (λ e. omega arith), tt),
-            ),
+            λ _. stays-way HALTED tt refl (λ e. omega arith),
+            (λ _. stays-way WAIT tt refl (λ e. omega arith), tt),
           ),
         ),
       );
-      empty = λ p. keep-way DONE (does _ refl (sound-of _ (p .is-sound)) (λ h. h));
-      halts = λ p. let h = sound-of _ (p .is-sound) in (
-        halt-way h NOT-IN-FOURS tt refl (λ e. omega arith),
+      empty = λ _. keep-way DONE (does _ refl h (λ stored. stored));
+      halts = λ _. (
+        halt-way NOT-IN-FOURS tt refl (λ e. omega arith),
         (
-          halt-way h SHORT-HEADER tt refl (λ e. omega arith),
+          halt-way SHORT-HEADER tt refl (λ e. omega arith),
           (
-            halt-way h BAD-TAG tt refl (λ e. omega arith),
+            halt-way BAD-TAG tt refl (λ e. omega arith),
             (
-              halt-way h UNKNOWN-MSGID tt refl (λ e. omega arith),
+              halt-way UNKNOWN-MSGID tt refl (λ e. omega arith),
               (
-                halt-way h RESERVED tt refl (λ e. omega arith),
+                halt-way RESERVED tt refl (λ e. omega arith),
                 (
-                  halt-way h OUT-OF-TURN tt refl (λ e. omega arith),
+                  halt-way OUT-OF-TURN tt refl (λ e. omega arith),
                   (
-                    halt-way h TOO-LONG tt refl (λ e. omega arith),
+                    halt-way TOO-LONG tt refl (λ e. omega arith),
                     (
-                      halt-way h WRONG-LENGTH tt refl (λ e. omega arith),
-                      (halt-way h MISALIGNED tt refl (λ e. omega arith), tt),
+                      halt-way WRONG-LENGTH tt refl (λ e. omega arith),
+                      (halt-way MISALIGNED tt refl (λ e. omega arith), tt),
                     ),
                   ),
                 ),
@@ -297,104 +289,87 @@ module _ (u : Device) where
 
   -- ** Bulk-IN
 
-  in-way : (room : ℕ) → Way u (in-poll room) (bulkIn u room)
+  in-way : (room : ℕ) → Way u (quiet (in-poll room)) (bulkIn u room)
   unfolding bulkIn poll own leaves
   in-way room =
-      decide-lines P (refuse (u .state)) (inRules (u .state) room) _ (
-        first-line u c (one UNSOUND (bulk []) tt),
+      decide-lines (λ (r : Said). Way u c (said u r)) (refuse (u .state)) (inRules (u .state) room) _ (
+        λ _. k UNCONFIGURED tt refl (λ e. omega arith),
         (
-          λ _. k UNCONFIGURED tt refl (λ e. omega arith),
+          λ _. k WRONG-SIZE tt refl (λ e. omega arith),
           (
-            λ _. k WRONG-SIZE tt refl (λ e. omega arith),
-            (
-              λ _. k HALTED tt refl (λ e. omega arith),
-              (λ _. k WAIT tt refl (λ e. omega arith), tt),
-            ),
+            λ _. k HALTED tt refl (λ e. omega arith),
+            (λ _. k WAIT tt refl (λ e. omega arith), tt),
           ),
         ),
       )
-      (λ n.
-      let h = sound-of _ (not-no _ (n .0)) in
-      pick-all P (isOwed (inOf (u .state))) _ _ (λ _. does _ refl (shut-in-sound (u .state) h) (stays u _))
-      (λ e.
-      let open-now : inOf (u .state) .phase ≡ CLOSED → ⊥ = λ z. true≢false (sym (or-left _ _ (no-true _ (eq-neb _ _ z))) ∙ not-both _ _ (n .1 .1 .1 .1 .0) (no-true _ e)) in
-      does _ send-done (send-sound (u .state) h _ open-now (eqb-false _ _ e)) (stays u _)))
+      (λ n. does _ refl (packet-sound (u .state) h (packetSize (u .state)) (unsentOf u) (open-now (n .1 .1 .1 .0))) (stays u _))
     where
       c : Call
-      c = in-poll room
+      c = quiet (in-poll room)
 
-      P : Said → Type 0
-      P r = Way u (in-poll room) (said u r)
+      k : (n : ℕ) → T (elem n (bulk [])) → leaves n ≡ unchanged → (n ≡ UNSOUND → ⊥) → Way u (quiet (in-poll room)) (refused u n)
+      k n o l e = keeps u (quiet (in-poll room)) n (one n (bulk []) o) l e
 
-      k : (n : ℕ) → T (elem n (bulk [])) → leaves n ≡ unchanged → (n ≡ UNSOUND → ⊥) → Way u (in-poll room) (refused u n)
-      k n o l e = keeps u (in-poll room) n (one n (bulk []) o) l e
+      -- with a packet to send the transfer is open
+      open-now : nothingToSend (inOf (u .state)) ≡ false → inOf (u .state) .transfer .phase ≡ CLOSED → ⊥
+      open-now n z = true≢false (sym (or-left _ _ (no-true _ (eq-neb _ _ z))) ∙ not-both _ _ n (no-true _ (ne-eqb (inOf (u .state) .transfer .phase) OWED (λ e. omega arith))))
 
-      send-done : send (u .state) (unsentOf u) .answer .number ≡ DONE
-      send-done = send-number (u .state) (unsentOf u)
-
-  -- ** the thermostat's calls and the bus's
+  -- ** the thermostat's calls
 
   take-way : (room : ℕ) → Way u (take-into room) (take-message u room)
   unfolding take-message taking own leaves
   take-way room =
       let c = take-into room in
       decide-lines (λ (r : Said). Way u c (said u r)) (refuse (u .state)) (takeRules (u .state) room) _ (
-        first-line u c (one UNSOUND (ownList c) tt),
+        λ _. keeps u c UNCONFIGURED (one UNCONFIGURED (ownList c) tt) refl (λ e. omega arith),
         (
-          λ _. keeps u c UNCONFIGURED (one UNCONFIGURED (ownList c) tt) refl (λ e. omega arith),
-          (
-            λ _. keeps u c NOT-NOW (one NOT-NOW (ownList c) tt) refl (λ e. omega arith),
-            (λ _. keeps u c WRONG-SIZE (one WRONG-SIZE (ownList c) tt) refl (λ e. omega arith), tt),
-          ),
+          λ _. keeps u c NOT-NOW (one NOT-NOW (ownList c) tt) refl (λ e. omega arith),
+          (λ _. keeps u c WRONG-SIZE (one WRONG-SIZE (ownList c) tt) refl (λ e. omega arith), tt),
         ),
       )
-      (λ n. does _ refl (released-sound (u .state) (sound-of _ (not-no _ (n .0))) (eqb-true _ _ (not-no _ (n .1 .1 .0)))) (stays u _))
+      (λ n. does _ refl (released-sound (u .state) h (eqb-true _ _ (not-no _ (n .1 .0)))) (stays u _))
 
-  offer-way : (bytes : List ℕ) → Way u (offer-reply bytes) (offer u bytes)
+  offer-way : (bytes : List ℕ) → Way u (quiet (offer-reply bytes)) (offer u bytes)
   unfolding offer offerPlan own leaves
   offer-way bytes =
-      let c = offer-reply bytes in
-      decide-lines P (plain (u .state)) (offerRules (u .state) (length bytes)) _ (
-        λ e. k UNSOUND (first-line u c (one UNSOUND (ownList c) tt) e),
+      let c = quiet (offer-reply bytes) in
+      decide-lines P (λ n. plain (u .state) (only n)) (offerRules (u .state) (length bytes)) _ (
+        λ _. k UNCONFIGURED (keeps u c UNCONFIGURED (one UNCONFIGURED (ownList c) tt) refl (λ e. omega arith)),
         (
-          λ _. k UNCONFIGURED (keeps u c UNCONFIGURED (one UNCONFIGURED (ownList c) tt) refl (λ e. omega arith)),
-          (
-            λ _. k WRONG-SIZE (keeps u c WRONG-SIZE (one WRONG-SIZE (ownList c) tt) refl (λ e. omega arith)),
-            (λ _. k NOT-NOW (keeps u c NOT-NOW (one NOT-NOW (ownList c) tt) refl (λ e. omega arith)), tt),
-          ),
+          λ _. k WRONG-SIZE (keeps u c WRONG-SIZE (one WRONG-SIZE (ownList c) tt) refl (λ e. omega arith)),
+          (λ _. k NOT-NOW (keeps u c NOT-NOW (one NOT-NOW (ownList c) tt) refl (λ e. omega arith)), tt),
         ),
       )
       (λ n.
-      let fits : length bytes ≤ STORE = ltb-false _ _ (none-right (length bytes =ᵇ 0) _ (n .1 .1 .0)) in
-      does _ refl (offered-sound (u .state) (sound-of _ (not-no _ (n .0))) (length bytes) fits (none-left _ _ (n .1 .1 .1 .0)) (none-right (hasReply (inOf (u .state))) _ (n .1 .1 .1 .0)))
-      (λ h. record { message = h .message; reply = length-paste (u .reply) 0 bytes (length bytes) (let l = h .reply in omega arith) (omega arith) ∙ h .reply }))
+      let fits : length bytes ≤ STORE = ltb-false _ _ (none-right (length bytes =ᵇ 0) _ (n .1 .0)) in
+      does _ refl (offered-sound (u .state) h (length bytes) fits (none-left _ _ (n .1 .1 .0)) (none-right (hasReply (inOf (u .state))) _ (n .1 .1 .0)))
+      (λ stored. record { message = stored .message; reply = length-paste (u .reply) 0 bytes (length bytes) (let l = stored .reply in omega arith) (omega arith) ∙ stored .reply }))
     where
       P : Plan → Type 0
-      P plan = Way u (offer-reply bytes) (withReply u bytes plan)
+      P plan = Way u (quiet (offer-reply bytes)) (withReply u bytes plan)
 
-      k : (n : ℕ) → Way u (offer-reply bytes) (refused u n) → P (plain (u .state) n)
-      k n w = subst (Way u (offer-reply bytes)) (sym (unstored u bytes n)) w
+      k : (n : ℕ) → Way u (quiet (offer-reply bytes)) (refused u n) → P (plain (u .state) (only n))
+      k n w = subst (Way u (quiet (offer-reply bytes))) (sym (unstored u bytes n)) w
 
-  module _ (c : Call) (list : OneOf UNSOUND (ownList c)) where
-    thermostat-way : (r : Said) → OneOf UNCONFIGURED (ownList c) → (Sound (u .state) → Way u c (said u r)) → Way u c (said u (decide (refuse (u .state)) (thermostatRules (u .state)) r))
-    unfolding leaves
-    thermostat-way r o w =
-        decide-lines (λ (q : Said). Way u c (said u q)) (refuse (u .state)) (thermostatRules (u .state)) _ (first-line u c list, (λ _. keeps u c UNCONFIGURED o refl (λ e. omega arith), tt)) (λ n. w (sound-of _ (not-no _ (n .0))))
+  thermostat-way : (c : Call) (r : Said) → OneOf UNCONFIGURED (ownList c) → Way u c (said u r) → Way u c (said u (decide (refuse (u .state)) (thermostatRules (u .state)) r))
+  unfolding leaves
+  thermostat-way c r o w = decide-lines (λ (q : Said). Way u c (said u q)) (refuse (u .state)) (thermostatRules (u .state)) _ (λ _. keeps u c UNCONFIGURED o refl (λ e. omega arith), tt) (λ _. w)
 
-    bus-way : {A : Type 0} (Q : A → Type 0) (f : ℕ → A) (r : A) → (Way u c (refused u UNSOUND) → Q (f UNSOUND)) → (Sound (u .state) → Q r) → Q (decide f (busRules (u .state)) r)
-    bus-way Q f r k w = decide-lines Q f (busRules (u .state)) _ (λ e. k (first-line u c list e), tt) (λ n. w (sound-of _ (not-no _ (n .0))))
+  sound-way : (c : Call) → Way u c (soundly u c)
+  unfolding soundly quietly own setStatus statusSet panel returned busReset suspend made
+  sound-way (setup-packet p) = setup-way (p .packet) (p .room) (setup-packet p) refl
+  sound-way (out-packet s) = out-way s
+  sound-way (take-into room) = take-way room
+  sound-way bus-reset = does _ refl (fresh-sound (portOf (u .state) .setting) OFF (h .port .size) (omega arith)) (λ _. zeroed-stored (portOf (u .state) .setting) OFF)
+  sound-way (quiet (in-poll room)) = in-way room
+  sound-way (quiet (offer-reply bytes)) = offer-way bytes
+  sound-way (quiet (set-status value)) = thermostat-way (quiet (set-status value)) _ (inr (inl refl)) (does _ refl (status-sound (u .state) h value) (stays u _))
+  sound-way (quiet front-panel) = thermostat-way (quiet front-panel) _ (inr (inl refl)) (does _ refl (remote-sound (u .state) h _) (stays u _))
+  sound-way (quiet bus-suspend) = does _ refl (local-sound (u .state) h) (stays u _)
 
-  pub way : (c : Call) → Way u c (step u c)
-  unfolding step own setStatus statusSet panel returned busReset suspend suspended answered served wiped made
-  way (setup-packet s room) = setup-way s room
-  way (out-packet s) = out-way s
-  way (in-poll room) = in-way room
-  way (take-into room) = take-way room
-  way (offer-reply bytes) = offer-way bytes
-  way (set-status status) = thermostat-way (set-status status) (inl refl) _ (inr (inl refl)) (λ h. does _ refl (status-sound (u .state) h status) (stays u _))
-  way front-panel = thermostat-way front-panel (inl refl) _ (inr (inl refl)) (λ h. does _ refl (remote-sound (u .state) h _) (stays u _))
-  way bus-reset = bus-way bus-reset (inl refl) (Way u bus-reset) (refused u) _ (λ w. w) (λ h. does _ refl (fresh-sound (u .state .small .port .setting) OFF (h .port .size) (omega arith)) (λ _. zeroed-stored (u .state .small .port .setting) OFF))
-  way bus-suspend = bus-way bus-suspend (inl refl) (λ (r : Said). Way u bus-suspend (said u r)) (refuse (u .state)) _ (λ w. w) (λ h. does _ refl (local-sound (u .state) h) (stays u _))
+pub way : (u : Device) (c : Call) → Way u c (step u c)
+unfolding step leaves
+way u c = pick-all (Way u c) (isSound u) _ _ (λ e. sound-way u (sound-of _ e) c) (λ e. refuses UNSOUND (unsound-own (kindOf c)) refl (λ _. e))
 
 -- ** the laws
 
@@ -417,7 +392,7 @@ keeps-stored u c h = by (step u c) (way u c)
 pub only-unsound : OnlyUnsound step
 only-unsound u c h = by (step u c) (way u c)
   where
-    by : (r : Result) → Way u c r → r .answer .number ≡ UNSOUND → ⊥
+    by : (r : Result) → Way u c r → r .answer .verdict .number ≡ UNSOUND → ⊥
     by r (refuses n o l e) z = true≢false (sym h ∙ e z)
     by r (halts n o l e s) z = e z
     by r (does q z′ s t) z = omega arith
@@ -425,7 +400,7 @@ only-unsound u c h = by (step u c) (way u c)
 pub own-numbers : OwnNumbers step
 own-numbers u c = by (step u c) (way u c)
   where
-    by : (r : Result) → Way u c r → OneOf (r .answer .number) (DONE ∷ ownList c)
+    by : (r : Result) → Way u c r → OneOf (r .answer .verdict .number) (DONE ∷ ownList c)
     by r (refuses n o l e) = inr o
     by r (halts n o l e s) = inr o
     by r (does q z s t) = inl z
@@ -433,7 +408,47 @@ own-numbers u c = by (step u c) (way u c)
 pub leaves-table : LeavesTable step
 leaves-table u c = by (step u c) (way u c)
   where
-    by : (r : Result) → Way u c r → (r .answer .number ≡ DONE → ⊥) → LeftAs (leaves (r .answer .number)) u r
+    by : (r : Result) → Way u c r → (r .answer .verdict .number ≡ DONE → ⊥) → LeftAs (leaves (r .answer .verdict .number)) u r
     by r (refuses n o l e) z = rw l refl
     by r (halts n o l e s) z = rw l refl
     by r (does q z′ s t) z = absurd (z z′)
+
+-- ** the stores at power-on, SET_CONFIGURATION and reset
+
+-- the packet is no other row's
+abbrev isOfDevice : Setup → Type 0
+isOfDevice (Configure value) = Unit {0}
+isOfDevice (Asks row) = ⊥
+isOfDevice NoRow = Unit {0}
+
+of-device : (value : ℕ) → isOfDevice (readSetup (SET-CONFIGURATION value))
+unfolding readSetup toDevice pick
+of-device value = by (matches (SET-CONFIGURATION value) 0 1 0 0) (wValue (SET-CONFIGURATION value))
+  where
+    by : (fits : Bool) (v : ℕ) → isOfDevice (row fits (Configure v))
+    by true v = tt
+    by false v = tt
+
+made-zeroed : (setting : Setting) (configured : ℕ) → Zeroed (made setting configured)
+unfolding made zeroed
+made-zeroed setting configured = (refl, refl)
+
+pub zeroes : Zeroes step
+unfolding step soundly busReset powerOn setup setupOutcome answered asked
+zeroes = record {
+  power-on = λ setting. pick-all (λ (r : Result). Zeroed (r .unit)) (isSize (setting .packet)) _ _ (λ _. made-zeroed _ _) (λ _. made-zeroed _ _);
+  configured = λ u value control. pick-all P (isSound u) _ _ (λ _. configures u value control) (λ _ e. absurd (omega arith));
+  reset = λ u. pick-all P (isSound u) _ _ (λ _ _. made-zeroed _ _) (λ _ e. absurd (omega arith));
+}
+  where
+    P : Result → Type 0
+    P r = r .answer .verdict .number ≡ DONE → Zeroed (r .unit)
+
+    by : (u : Device) (x : Setup) → isOfDevice x → P (answered u (asked (u .state) x))
+    by u (Configure value) k e = made-zeroed _ _
+    by u (Asks row) k e = absurd k
+    by u NoRow k e = absurd (omega arith)
+
+    configures : (u : Device) (value control : ℕ) → P (setup u (SET-CONFIGURATION value) control)
+    configures u value control =
+        decide-all (λ (x : SetupOutcome). P (answered u x)) Denies (setupRules (length (SET-CONFIGURATION value)) control) _ (λ e. absurd (omega arith), tt) (λ _. by u (readSetup (SET-CONFIGURATION value)) (of-device value))

@@ -6,6 +6,7 @@ use mathlib.Core.Path.{_≡_, refl}
 use mathlib.Core.Bool.{Bool, true, false}
 use mathlib.Core.List.{List, [], _∷_, map}
 use lib.ListN.{length, replicate}
+use Rattle.port.specs.Parts.{transferIn}
 use Rattle.port.specs.Sound.{sound}
 use Rattle.port.specs.declared.types.Port.{Port}
 use Rattle.port.specs.declared.types.BulkOut.{BulkOut}
@@ -22,23 +23,13 @@ port packet configured ren = record { setting = record { packet = packet }; conf
 
 -- halted, ready, most recent tag; held, left, got, end
 abbrev out : ℕ → ℕ → ℕ → ℕ → ℕ → ℕ → ℕ → BulkOut
-out halted ready recent held left got end = record { held = held; left = left; got = got; end = end; ready = ready; halted = halted; recent = recent }
+out halted ready recent held left got end =
+    record { message = record { held = held; ready = ready }; transfer = record { left = left; got = got; end = end }; halted = halted; recent = recent }
 
 -- halted, most recent tag, place, unsent; phase, tag, asked, enabled, term, left, sent
 abbrev inward : ℕ → ℕ → ℕ → ℕ → ℕ → ℕ → ℕ → ℕ → ℕ → ℕ → ℕ → BulkIn
-inward halted recent at unsent phase tag asked enabled term left sent = record {
-  at = at;
-  unsent = unsent;
-  asked = asked;
-  left = left;
-  sent = sent;
-  enabled = enabled;
-  term = term;
-  phase = phase;
-  tag = tag;
-  halted = halted;
-  recent = recent;
-}
+inward halted recent at unsent phase tag asked enabled term left sent =
+    record { reply = record { at = at; unsent = unsent }; transfer = transferIn phase tag asked enabled term left sent; halted = halted; recent = recent }
 
 abbrev state : Port → BulkOut → BulkIn → Split → State
 state p o b s = record { small = record { port = p; bulkout = o; bulkin = b }; split = s; remote = Locs }

@@ -5,7 +5,7 @@ use mathlib.Core.Path.{_≡_, refl, ap}
 use mathlib.Core.List.{List, []}
 use native.Mathlib.Omega.{arith}
 use lib.ListN.{length, getD}
-use Rattle.port.specs.In.{Answer, number}
+use Rattle.port.specs.Answer.{Answer, number}
 use Rattle.port.specs.Cases.{table, played, Cases}
 use Rattle.port.specs.Idle.{constant, refusing, idling, doingNothing, pretending, madeUp}
 use Rattle.port.proofs.Opened.{computed}
@@ -28,16 +28,16 @@ no-refusing n e = no-constant-answer (number n) e
 -- case a: there is nothing to take behind the packet; or the packet is answered as before SET_CONFIGURATION
 pub no-idling : Cases idling → ⊥
 unfolding computed table played idling
-no-idling e = let none : _≡_ {A = ℕ} 16 0 = ap (λ (rows : List (List Answer)). at 0 2 rows .number) e in omega arith
+no-idling e = let none : _≡_ {A = ℕ} 16 0 = ap (λ (rows : List (List Answer)). at 0 2 rows .verdict .number) e in omega arith
 
 pub no-doing-nothing : Cases doingNothing → ⊥
 unfolding computed table played doingNothing
-no-doing-nothing e = let two : _≡_ {A = ℕ} 2 0 = ap (λ (rows : List (List Answer)). at 0 1 rows .number) e in omega arith
+no-doing-nothing e = let two : _≡_ {A = ℕ} 2 0 = ap (λ (rows : List (List Answer)). at 0 1 rows .verdict .number) e in omega arith
 
 -- case c: after the first header there is nothing to take yet
 pub no-pretending : Cases pretending → ⊥
 unfolding computed table played pretending
-no-pretending e = let none : _≡_ {A = ℕ} 0 16 = ap (λ (rows : List (List Answer)). at 2 2 rows .number) e in omega arith
+no-pretending e = let none : _≡_ {A = ℕ} 0 16 = ap (λ (rows : List (List Answer)). at 2 2 rows .verdict .number) e in omega arith
 
 -- case g: 52 data bytes came, and no other count that two bytes hold is the paper's
 pub no-made-up-count : (n : ℕ) → n < 65536 → (n ≡ 52 → ⊥) → Cases (madeUp n) → ⊥

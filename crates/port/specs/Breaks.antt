@@ -13,8 +13,8 @@ use Rattle.wire.specs.declared.types.Row.{Row}
 use Rattle.wire.specs.declared.types.Row.the-variants.{InitiateAbortBulkOut, CheckAbortBulkOutStatus, InitiateAbortBulkIn, CheckAbortBulkInStatus, InitiateClear, CheckClearStatus, GetCapabilities, IndicatorPulse, ReadStatusByte, RenControl, GoToLocal, LocalLockout, ClearFeature, SetFeature, GetStatus}
 use Rattle.wire.specs.declared.types.Setup.{Setup}
 use Rattle.wire.specs.declared.types.Setup.the-variants.{Configure, Asks, NoRow}
-use Rattle.port.specs.In.{Answer}
-use Rattle.port.specs.Step.{Call, setup-packet, out-packet, in-poll, take-into, offer-reply, set-status, front-panel, bus-reset, bus-suspend}
+use Rattle.port.specs.Answer.{Answer}
+use Rattle.port.specs.Step.{Call, setup-packet, out-packet, take-into, bus-reset, quiet}
 
 abbrev pub isOut : Endpoint → Bool
 isOut Out = true
@@ -49,12 +49,8 @@ breaksSetup (Asks row) bytes = breaksRow row bytes
 breaksSetup NoRow bytes = false
 
 unfoldable pub isBreak : Call → Answer → Bool
-isBreak (setup-packet s room) a = a .number =ᵇ DONE and breaksSetup (readSetup s) (a .bytes)
-isBreak (out-packet s) a = halting (leaves (a .number))
-isBreak (in-poll room) a = false
+isBreak (setup-packet p) a = a .verdict .number =ᵇ DONE and breaksSetup (readSetup (p .packet)) (a .bytes)
+isBreak (out-packet s) a = halting (leaves (a .verdict .number))
 isBreak (take-into room) a = false
-isBreak (offer-reply bytes) a = false
-isBreak (set-status status) a = false
-isBreak front-panel a = false
-isBreak bus-reset a = a .number =ᵇ DONE
-isBreak bus-suspend a = false
+isBreak bus-reset a = a .verdict .number =ᵇ DONE
+isBreak (quiet q) a = false

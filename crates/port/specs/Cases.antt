@@ -4,15 +4,15 @@ use Prim.Native.Nat.{ℕ, zero, suc, _-_, _%_, _/_}
 use mathlib.Core.Path.{_≡_}
 use mathlib.Core.List.{List, [], _∷_, _++_, map}
 use lib.ListN.{replicate}
-use Rattle.rules.specs.Answers.{DONE, TELLS-NOTHING}
-use Rattle.port.specs.In.{Answer, number}
+use Rattle.rules.specs.Answers.{done}
+use Rattle.port.specs.Answer.{Answer, number}
 use Rattle.port.specs.Device.{powerOn}
-use Rattle.port.specs.Step.{Call, setup-packet, out-packet, in-poll, take-into, offer-reply, Stepping, run}
+use Rattle.port.specs.Step.{in-poll, offer-reply, Call, out-packet, take-into, quiet, setup-of, Stepping, run}
 
 -- ** how the rows are written
 
 abbrev pub says : List ℕ → Answer
-says bytes = record { number = DONE; bytes = bytes; tells = TELLS-NOTHING }
+says bytes = record { verdict = done; bytes = bytes }
 
 -- MsgID, tag, size and attributes, with what follows the header
 abbrev pub packet : ℕ → ℕ → ℕ → ℕ → List ℕ → Call
@@ -29,11 +29,14 @@ abbrev pub take : Call
 take = take-into 1024
 
 abbrev pub poll : Call
-poll = in-poll 64
+poll = quiet (in-poll 64)
+
+abbrev pub offered : List ℕ → Call
+offered bytes = quiet (offer-reply bytes)
 
 -- the eight bytes of a setup packet, into a buffer of 24
 abbrev pub setup : ℕ → ℕ → ℕ → ℕ → ℕ → Call
-setup type asked value index size = setup-packet (type ∷ asked ∷ value ∷ 0 ∷ index ∷ 0 ∷ size ∷ 0 ∷ []) 24
+setup type asked value index size = setup-of (type ∷ asked ∷ value ∷ 0 ∷ index ∷ 0 ∷ size ∷ 0 ∷ []) 24
 
 -- the same call, or answer, several times over
 abbrev pub times : {A : Type 0} → ℕ → A → List A → List A
@@ -89,17 +92,17 @@ table =
     )
     -- h: reply 51: one packet of 63
     ∷ (
-      offer-reply (replicate 51 7) ∷ request 1 1000 ∷ poll ∷ poll ∷ [],
+      offered (replicate 51 7) ∷ request 1 1000 ∷ poll ∷ poll ∷ [],
       number 0 ∷ number 0 ∷ says (reply 51 1 (replicate 51 7)) ∷ number 5 ∷ [],
     )
     -- i: reply 52: 64, then empty
     ∷ (
-      offer-reply (replicate 52 7) ∷ request 1 1000 ∷ poll ∷ poll ∷ poll ∷ [],
+      offered (replicate 52 7) ∷ request 1 1000 ∷ poll ∷ poll ∷ poll ∷ [],
       number 0 ∷ number 0 ∷ says (reply 52 1 (replicate 52 7)) ∷ says [] ∷ number 5 ∷ [],
     )
     -- j: reply 100, asked 30: 42 bytes, EOM off; asked 1,000: 64 and 18, EOM on
     ∷ (
-      offer-reply (replicate 30 7 ++ replicate 70 8) ∷ request 1 30 ∷ poll ∷ request 1 1000 ∷ poll ∷ poll ∷ [],
+      offered (replicate 30 7 ++ replicate 70 8) ∷ request 1 30 ∷ poll ∷ request 1 1000 ∷ poll ∷ poll ∷ [],
       number 0 ∷ number 0 ∷ says (reply 30 0 (replicate 30 7)) ∷ number 0 ∷ says (reply 70 1 (replicate 52 8)) ∷ says (replicate 18 8) ∷ [],
     )
     ∷ []

@@ -9,7 +9,7 @@ use Rattle.rules.specs.Answers.{DONE, WRONG-SIZE}
 use Rattle.wire.specs.Header.{OFF}
 use Rattle.port.specs.Parts.{STORE, FULL-SPEED, isSize, fresh, outOf, inOf}
 use Rattle.port.specs.Sound.{sound}
-use Rattle.port.specs.In.{Answer, Said, number}
+use Rattle.port.specs.Answer.{Answer, number}
 use Rattle.port.specs.declared.types.Setting.{Setting}
 use Rattle.port.specs.declared.types.BulkOut.{BulkOut}
 use Rattle.port.specs.declared.types.BulkIn.{BulkIn}
@@ -34,10 +34,10 @@ withState u st = record { message = u .message; reply = u .reply; state = st }
 
 -- the message that comes in, in the store that holds it, and the bytes of the reply that have not gone
 abbrev pub heldIn : BulkOut → List ℕ → List ℕ
-heldIn o message = take (o .held) message
+heldIn o message = take (o .message .held) message
 
 abbrev pub unsentIn : BulkIn → List ℕ → List ℕ
-unsentIn b reply = take (b .unsent) (drop (b .at) reply)
+unsentIn b reply = take (b .reply .unsent) (drop (b .reply .at) reply)
 
 abbrev pub heldOf : Device → List ℕ
 heldOf u = heldIn (outOf (u .state)) (u .message)

@@ -5,11 +5,11 @@ use mathlib.Core.Path.{_≡_}
 use mathlib.Core.List.{List}
 use lib.ListN.{length}
 use Rattle.wire.specs.Bytes.{into}
-use Rattle.port.specs.In.{Said}
+use Rattle.port.specs.Answer.{Said}
 use Rattle.port.specs.declared.types.Given.{Given}
 
 abbrev pub givenOf : Said → Given
-givenOf r = record { state = r .state; number = r .answer .number; tells = r .answer .tells; len = length (r .answer .bytes) }
+givenOf r = record { state = r .state; verdict = r .answer .verdict; len = length (r .answer .bytes) }
 
 -- and its bytes stand in the buffer, which held `before` and holds `after`
 abbrev pub Hands : Said → Given → List ℕ → List ℕ → Type 0

@@ -7,7 +7,7 @@ use Rattle.rules.specs.Choice.{_=ᵇ_, pick}
 use Rattle.rules.specs.Answers.{DONE}
 use Rattle.wire.specs.Bytes.{bytes4}
 use Rattle.port.specs.Parts.{outOf, isConfigured}
-use Rattle.port.specs.In.{Answer, number}
+use Rattle.port.specs.Answer.{Answer, number}
 use Rattle.port.specs.Device.{Device, Result}
 use Rattle.port.specs.Step.{Call, Stepping, step}
 
@@ -36,5 +36,5 @@ madeUp n u c =
     let bytes = r .answer .bytes in
     record {
       unit = r .unit;
-      answer = record { number = r .answer .number; bytes = pick (length bytes =ᵇ 8) (take 4 bytes ++ bytes4 n) bytes; tells = r .answer .tells };
+      answer = record { verdict = r .answer .verdict; bytes = pick (length bytes =ᵇ 8) (take 4 bytes ++ bytes4 n) bytes };
     }

@@ -5,21 +5,22 @@ use mathlib.Core.Path.{_≡_}
 use mathlib.Core.Bool.{true, false}
 use mathlib.Core.List.{List, [], _∷_, _++_}
 use mathlib.Core.Logic.{_⊎_}
-use lib.ListN.{length}
-use Rattle.rules.specs.Answers.{DONE, UNSOUND, WRONG-SIZE, NOT-IN-FOURS, RESERVED, WRONG-LENGTH, MISALIGNED, NO-ROW, SUCCESS, FAILED, TRANSFER-NOT-IN-PROGRESS, SPLIT-IN-PROGRESS, TELLS-NOTHING, Leaves, as-ruled, unchanged, out-halted, leaves}
+use lib.ListN.{length, replicate}
+use Rattle.rules.specs.Answers.{DONE, UNSOUND, WRONG-SIZE, NOT-IN-FOURS, RESERVED, WRONG-LENGTH, MISALIGNED, NO-ROW, SUCCESS, FAILED, TRANSFER-NOT-IN-PROGRESS, SPLIT-IN-PROGRESS, Leaves, as-ruled, unchanged, out-halted, leaves, done}
 use Rattle.rules.specs.Choice.{named}
 use Rattle.wire.specs.Header.{OFF, readingRules}
 use Rattle.wire.specs.Setup.{CONTROL}
 use Rattle.wire.specs.declared.types.Header.{Header}
-use Rattle.port.specs.Parts.{STORE, FULL-SPEED, isSize, isOpenOut, unfinished, packetSize, outOf, inOf, isConfigured, isClear, haltedOut}
+use Rattle.port.specs.Parts.{STORE, FULL-SPEED, isSize, isOpenOut, unfinished, outOf, inOf, packetSize, isConfigured, isClear, haltedOut}
 use Rattle.port.specs.Out.{moreRules, headerRules, outRules}
-use Rattle.port.specs.In.{Answer, number, inRules}
+use Rattle.port.specs.Answer.{Answer, number}
+use Rattle.port.specs.In.{inRules}
 use Rattle.port.specs.Rows.{abortRules}
 use Rattle.port.specs.declared.types.Setting.{Setting}
 use Rattle.port.specs.declared.types.State.{State}
 use Rattle.port.specs.Device.{Device, Result, isSound, withState, made, powerOn}
-use Rattle.port.specs.Calls.{refused, setupRules, takeRules, offerRules, thermostatRules, busRules}
-use Rattle.port.specs.Step.{Call, setup-packet, in-poll, Stepping, after}
+use Rattle.port.specs.Calls.{refused, setupRules, takeRules, offerRules, thermostatRules}
+use Rattle.port.specs.Step.{in-poll, Call, setup-packet, bus-reset, quiet, setup-of, Stepping, after}
 use Rattle.port.specs.Live.{live}
 use Rattle.port.specs.Survivors.{survivors}
 use Rattle.port.specs.Breaks.{isBreak}
@@ -56,12 +57,12 @@ abbrev pub UnsoundRefused : Stepping → Type 0
 UnsoundRefused does = (u : Device) (c : Call) → isSound u ≡ false → does u c ≡ refused u UNSOUND
 
 abbrev pub OnlyUnsound : Stepping → Type 0
-OnlyUnsound does = (u : Device) (c : Call) → isSound u ≡ true → does u c .answer .number ≡ UNSOUND → ⊥
+OnlyUnsound does = (u : Device) (c : Call) → isSound u ≡ true → does u c .answer .verdict .number ≡ UNSOUND → ⊥
 
 -- ** numbers
 
 abbrev pub OwnNumbers : Stepping → Type 0
-OwnNumbers does = (u : Device) (c : Call) → OneOf (does u c .answer .number) (DONE ∷ ownList c)
+OwnNumbers does = (u : Device) (c : Call) → OneOf (does u c .answer .verdict .number) (DONE ∷ ownList c)
 
 -- each of them is answered: but for 1, by a unit that calls from power-on have made
 pub record Reachable (does : Stepping) (u : Device) : Type 0 where
@@ -73,24 +74,23 @@ pub record Answered (does : Stepping) (k : Kind) (n : ℕ) : Type 0 where
   pub unit : Device
   pub call : Call
   pub kind : kindOf call ≡ k
-  pub gives : does unit call .answer .number ≡ n
+  pub gives : does unit call .answer .verdict .number ≡ n
   pub reached : (n ≡ UNSOUND) ⊎ Reachable does unit
 
 abbrev pub EachAnswered : Stepping → Type 0
 EachAnswered does = (k : Kind) (n : ℕ) → OneOf n (DONE ∷ own k) → Answered does k n
 
--- "The first that applies decides": the lists of rules have the paper's numbers in the paper's order. A header's 10 stands by MsgID behind
--- its 9, and setup's 15 behind its list
+-- "The first that applies decides": the lists of rules have the paper's numbers in the paper's order. 1 is asked before every call (UnsoundRefused); a
+-- header's 10 stands by MsgID behind its 9, and setup's 15 behind its list
 pub record InOrder (st : State) (s : List ℕ) (h : Header) (n : ℕ) : Type 0 where
-  pub packets : named (outRules st n) ≡ bulk []
+  pub packets : UNSOUND ∷ named (outRules st n) ≡ bulk []
   pub headers : named (readingRules s) ++ (RESERVED ∷ []) ++ named (headerRules st s h) ≡ faults
   pub continuing : named (moreRules n n s) ≡ NOT-IN-FOURS ∷ WRONG-LENGTH ∷ MISALIGNED ∷ []
-  pub polls : named (inRules st n) ≡ bulk []
-  pub setups : named (setupRules st n n) ++ (NO-ROW ∷ []) ≡ own setup
-  pub takes : named (takeRules st n) ≡ own taking
-  pub offers : named (offerRules st n) ≡ own offering
-  pub panels : named (thermostatRules st) ≡ own panel
-  pub buses : named (busRules st) ≡ own reset
+  pub polls : UNSOUND ∷ named (inRules st n) ≡ bulk []
+  pub setups : UNSOUND ∷ named (setupRules n n) ++ (NO-ROW ∷ []) ≡ own setup
+  pub takes : UNSOUND ∷ named (takeRules st n) ≡ own taking
+  pub offers : UNSOUND ∷ named (offerRules st n) ≡ own offering
+  pub panels : UNSOUND ∷ named (thermostatRules st) ≡ own panel
   pub aborts : named (abortRules (st .split) true n n) ≡ SPLIT-IN-PROGRESS ∷ FAILED ∷ TRANSFER-NOT-IN-PROGRESS ∷ []
 
 abbrev pub Orders : Type 0
@@ -100,11 +100,11 @@ Orders = (st : State) (s : List ℕ) (h : Header) (n : ℕ) → InOrder st s h n
 
 abbrev pub LeftAs : Leaves → Device → Result → Type 0
 LeftAs as-ruled u r = ⊥
-LeftAs unchanged u r = r ≡ refused u (r .answer .number)
-LeftAs out-halted u r = r ≡ refused (withState u (haltedOut (u .state))) (r .answer .number)
+LeftAs unchanged u r = r ≡ refused u (r .answer .verdict .number)
+LeftAs out-halted u r = r ≡ refused (withState u (haltedOut (u .state))) (r .answer .verdict .number)
 
 abbrev pub LeavesTable : Stepping → Type 0
-LeavesTable does = (u : Device) (c : Call) → (does u c .answer .number ≡ DONE → ⊥) → LeftAs (leaves (does u c .answer .number)) u (does u c)
+LeavesTable does = (u : Device) (c : Call) → (does u c .answer .verdict .number ≡ DONE → ⊥) → LeftAs (leaves (does u c .answer .verdict .number)) u (does u c)
 
 -- ** what counts
 
@@ -129,13 +129,13 @@ CHECK-CLEAR-STATUS = 0xA1 ∷ 6 ∷ 0 ∷ 0 ∷ 0 ∷ 0 ∷ 2 ∷ 0 ∷ []
 
 -- the answer of CHECK_CLEAR_STATUS that says SUCCESS
 abbrev pub success : Answer
-success = record { number = DONE; bytes = SUCCESS ∷ 0 ∷ []; tells = TELLS-NOTHING }
+success = record { verdict = done; bytes = SUCCESS ∷ 0 ∷ [] }
 
 -- "SUCCESS is reached after at most one poll into a large enough buffer"
 abbrev pub Reached : Stepping → Device → ℕ → ℕ → Type 0
 Reached does u control room =
-    (does u (setup-packet CHECK-CLEAR-STATUS control) .answer ≡ success)
-    ⊎ (does (does u (in-poll room) .unit) (setup-packet CHECK-CLEAR-STATUS control) .answer ≡ success)
+    (does u (setup-of CHECK-CLEAR-STATUS control) .answer ≡ success)
+    ⊎ (does (does u (quiet (in-poll room)) .unit) (setup-of CHECK-CLEAR-STATUS control) .answer ≡ success)
 
 pub record Ready (u : Device) (control room : ℕ) : Type 0 where
   pub sound : isSound u ≡ true
@@ -147,12 +147,26 @@ pub record Ready (u : Device) (control room : ℕ) : Type 0 where
 -- "With Bulk-IN not halted": after INITIATE_CLEAR, and where a clear has already begun
 abbrev pub ClearReached : Stepping → Type 0
 ClearReached does = (u : Device) (control room : ℕ) → Ready u control room
-    → Reached does (does u (setup-packet INITIATE-CLEAR control) .unit) control room × (isClear (u .state .split) ≡ true → Reached does u control room)
+    → Reached does (does u (setup-of INITIATE-CLEAR control) .unit) control room × (isClear (u .state .split) ≡ true → Reached does u control room)
 
 -- ** "The four things that survive" a clear: none of its three calls moves them
 
 abbrev pub Survive : Stepping → Type 0
 Survive does = (u : Device) (control room : ℕ) → Ready u control room
-    → (survivors (does u (setup-packet INITIATE-CLEAR control) .unit .state) ≡ survivors (u .state))
-    × (survivors (does u (in-poll room) .unit .state) ≡ survivors (u .state))
-    × (survivors (does u (setup-packet CHECK-CLEAR-STATUS control) .unit .state) ≡ survivors (u .state))
+    → (survivors (does u (setup-of INITIATE-CLEAR control) .unit .state) ≡ survivors (u .state))
+    × (survivors (does u (quiet (in-poll room)) .unit .state) ≡ survivors (u .state))
+    × (survivors (does u (setup-of CHECK-CLEAR-STATUS control) .unit .state) ≡ survivors (u .state))
+
+-- ** SET_CONFIGURATION and reset leave "all but P as at power-on": the stores too, byte by byte
+
+abbrev pub Zeroed : Device → Type 0
+Zeroed u = (u .message ≡ replicate 1024 0) × (u .reply ≡ replicate 1024 0)
+
+abbrev pub SET-CONFIGURATION : ℕ → List ℕ
+SET-CONFIGURATION value = 0x00 ∷ 9 ∷ value ∷ 0 ∷ 0 ∷ 0 ∷ 0 ∷ 0 ∷ []
+
+pub record Zeroes (does : Stepping) : Type 0 where
+  pub power-on : (setting : Setting) → Zeroed (powerOn setting .unit)
+  pub configured : (u : Device) (value control : ℕ) → does u (setup-of (SET-CONFIGURATION value) control) .answer .verdict .number ≡ DONE
+      → Zeroed (does u (setup-of (SET-CONFIGURATION value) control) .unit)
+  pub reset : (u : Device) → does u bus-reset .answer .verdict .number ≡ DONE → Zeroed (does u bus-reset .unit)

@@ -2,6 +2,7 @@
 pub mod Parts
 pub mod Remote
 pub mod Sound
+pub mod Answer
 pub mod Out
 pub mod In
 pub mod Given

@@ -3,7 +3,7 @@
 use Prim.Native.Nat.{ℕ}
 use mathlib.Core.List.{List, [], _∷_}
 use Rattle.rules.specs.Answers.{DONE, UNSOUND, UNCONFIGURED, WRONG-SIZE, HALTED, WAIT, NOT-IN-FOURS, SHORT-HEADER, BAD-TAG, UNKNOWN-MSGID, RESERVED, WRONG-LENGTH, TOO-LONG, OUT-OF-TURN, MISALIGNED, NO-ROW, NOT-NOW}
-use Rattle.port.specs.Step.{Call, setup-packet, out-packet, in-poll, take-into, offer-reply, set-status, front-panel, bus-reset, bus-suspend}
+use Rattle.port.specs.Step.{Quiet, in-poll, offer-reply, set-status, front-panel, bus-suspend, Call, setup-packet, out-packet, take-into, bus-reset, quiet}
 
 -- "Bulk calls: 1, 2, 3, 4, 5"
 abbrev pub bulk : List ℕ → List ℕ
@@ -17,16 +17,19 @@ faults = NOT-IN-FOURS ∷ SHORT-HEADER ∷ BAD-TAG ∷ UNKNOWN-MSGID ∷ RESERVE
 pub data Kind : Type 0 where
   setup out poll taking offering status panel reset suspending : Kind
 
+abbrev pub quietKind : Quiet → Kind
+quietKind (in-poll room) = poll
+quietKind (offer-reply bytes) = offering
+quietKind (set-status value) = status
+quietKind front-panel = panel
+quietKind bus-suspend = suspending
+
 abbrev pub kindOf : Call → Kind
-kindOf (setup-packet s room) = setup
+kindOf (setup-packet p) = setup
 kindOf (out-packet s) = out
-kindOf (in-poll room) = poll
 kindOf (take-into room) = taking
-kindOf (offer-reply bytes) = offering
-kindOf (set-status value) = status
-kindOf front-panel = panel
 kindOf bus-reset = reset
-kindOf bus-suspend = suspending
+kindOf (quiet q) = quietKind q
 
 -- "Take: 1, 2, 16, 3. Offer: 1, 2, 3, 16. Setup: 1, 3, 15. Bus calls: 1. Panel and set status: 1, 2."
 unfoldable pub own : Kind → List ℕ

@@ -5,7 +5,7 @@
 use Prim.Native.Nat.{ℕ}
 use mathlib.Core.List.{List, _++_}
 use lib.ListN.{length, drop}
-use Rattle.port.specs.Parts.{inOf, withIn}
+use Rattle.port.specs.Parts.{inOf, withIn, carrying}
 use Rattle.port.specs.declared.types.BulkIn.{BulkIn}
 use Rattle.port.specs.declared.types.State.{State}
 use Rattle.port.specs.Device.{Device, heldOf, unsentOf, zeroed}
@@ -17,19 +17,7 @@ pub record Live : Type 0 where
 
 -- the reply is wherever it is
 abbrev pub atFront : BulkIn → BulkIn
-atFront b = record {
-  at = 0;
-  unsent = b .unsent;
-  asked = b .asked;
-  left = b .left;
-  sent = b .sent;
-  enabled = b .enabled;
-  term = b .term;
-  phase = b .phase;
-  tag = b .tag;
-  halted = b .halted;
-  recent = b .recent;
-}
+atFront b = carrying b (record { at = 0; unsent = b .reply .unsent }) (b .transfer)
 
 unfoldable pub live : Device → Live
 live u = record { state = withIn (u .state) (atFront (inOf (u .state))); message = heldOf u; reply = unsentOf u }

@@ -7,16 +7,16 @@ use mathlib.Core.Bool.{Bool, true, false}
 use mathlib.Core.List.{List, []}
 use lib.ListN.{length}
 use Rattle.rules.specs.Choice.{_=ᵇ_, _≠ᵇ_, _<ᵇ_, no, _or_, _and_, pick, _⇒_∣_, decide}
-use Rattle.rules.specs.Answers.{DONE, UNSOUND, UNCONFIGURED, WRONG-SIZE, HALTED, WAIT, NOT-IN-FOURS, WRONG-LENGTH, TOO-LONG, OUT-OF-TURN, MISALIGNED, TELLS-NOTHING, TELLS-TRIGGER}
+use Rattle.rules.specs.Answers.{DONE, UNCONFIGURED, WRONG-SIZE, HALTED, WAIT, NOT-IN-FOURS, WRONG-LENGTH, TOO-LONG, OUT-OF-TURN, MISALIGNED, TELLS-TRIGGER, only, done}
+use Rattle.rules.specs.declared.verdict.Verdict.{Verdict}
 use Rattle.wire.specs.Bytes.{zeros}
 use Rattle.wire.specs.Header.{HEADER, FOUR, aligned, OFF, ON, readHeader}
 use Rattle.wire.specs.declared.types.Header.{Header}
 use Rattle.wire.specs.declared.types.Header.the-variants.{Message, Request, Trigger}
 use Rattle.wire.specs.declared.types.Read.{Read}
 use Rattle.wire.specs.declared.types.Read.the-variants.{Good, Fault}
-use Rattle.port.specs.Parts.{STORE, ASKED, on, isOpenOut, unfinished, isOpenIn, packetSize, outOf, inOf, isConfigured, withOut, withIn, withRemote, haltedOut}
+use Rattle.port.specs.Parts.{STORE, on, isOpenOut, unfinished, isOpenIn, portOf, outOf, inOf, packetSize, isConfigured, closedOut, askedIn, holding, withOut, withIn, withRemote, haltedOut}
 use Rattle.port.specs.Remote.{headed, withRenOn}
-use Rattle.port.specs.Sound.{sound}
 use Rattle.port.specs.declared.types.BulkOut.{BulkOut}
 use Rattle.port.specs.declared.types.BulkIn.{BulkIn}
 use Rattle.port.specs.declared.types.State.{State}
@@ -66,92 +66,79 @@ dataLength (Trigger tag) = 0
 abbrev pub headerRules : State → List ℕ → Header → List (Bool × ℕ)
 headerRules st s h =
     outOfTurn (outOf st) (inOf st) h ⇒ OUT-OF-TURN ∣
-    STORE <ᵇ outOf st .held + dataLength h ⇒ TOO-LONG ∣
+    STORE <ᵇ outOf st .message .held + dataLength h ⇒ TOO-LONG ∣
     fitRules (packetSize st) s HEADER (dataLength h)
 
 unfoldable pub headerSays : State → List ℕ → Read → Outcome
 headerSays st s (Fault number) = Halt number
 headerSays st s (Good h) = decide Halt (headerRules st s h) (Accept h (min (dataLength h) (length s - HEADER)))
 
--- ** what a packet comes to: "Bulk calls: 1, 2, 3, 4, 5"
+-- ** what a packet comes to: "Bulk calls: 1, 2, 3, 4, 5", of which 1 is asked before every call (Step)
 
 abbrev pub outRules : State → ℕ → List (Bool × ℕ)
 outRules st n =
-    no (sound st) ⇒ UNSOUND ∣
     no (isConfigured st) ⇒ UNCONFIGURED ∣
     packetSize st <ᵇ n ⇒ WRONG-SIZE ∣
     on (outOf st .halted) ⇒ HALTED ∣
-    on (outOf st .ready) ⇒ WAIT ∣ []
+    on (outOf st .message .ready) ⇒ WAIT ∣ []
 
 -- "Between transfers an empty packet is answered 0 and changes nothing"
 unfoldable pub outcome : State → List ℕ → Outcome
 outcome st s =
     decide Keep (outRules st (length s))
-    (pick (isOpenOut (outOf st)) (more (packetSize st) (outOf st .left) s)
+    (pick (isOpenOut (outOf st)) (more (packetSize st) (outOf st .transfer .left) s)
     (pick (length s =ᵇ 0) (Keep DONE)
     (headerSays st s (readHeader s))))
 
--- ** data bytes that come
+-- ** data bytes that come: `count` of those of the open transfer are here
 
--- "until complete": `count` of the data bytes to come are here. "When a transfer with EOM completes, the message is ready"
+-- "When a transfer with EOM completes, the message is ready until taken; without EOM the next transfer continues it"
+abbrev pub completed : BulkOut → ℕ → BulkOut
+completed o count = holding o (record { held = o .message .held + count; ready = o .transfer .end }) closedOut
+
+abbrev pub continued : BulkOut → ℕ → BulkOut
+continued o count =
+    holding o (record { held = o .message .held + count; ready = OFF })
+    (record { left = o .transfer .left - count; got = o .transfer .got + count; end = o .transfer .end })
+
 unfoldable pub absorbed : BulkOut → ℕ → BulkOut
-absorbed o count = record {
-  held = o .held + count;
-  left = o .left - count;
-  got = pick (o .left =ᵇ count) 0 (o .got + count);
-  end = pick (o .left =ᵇ count) OFF (o .end);
-  ready = pick (o .left =ᵇ count) (o .end) OFF;
-  halted = o .halted;
-  recent = o .recent;
-}
+absorbed o count = pick (o .transfer .left =ᵇ count) (completed o count) (continued o count)
 
 -- "The most recent tag is that of the last header accepted"; a header of MsgID 1 opens a transfer of `size` data bytes
-abbrev pub opened : BulkOut → ℕ → ℕ → ℕ → BulkOut
-opened o tag size end = record { held = o .held; left = size; got = 0; end = end; ready = o .ready; halted = o .halted; recent = tag }
-
 abbrev pub tagged : BulkOut → ℕ → BulkOut
-tagged o tag = record { held = o .held; left = o .left; got = o .got; end = o .end; ready = o .ready; halted = o .halted; recent = tag }
+tagged o tag = record { message = o .message; transfer = o .transfer; halted = o .halted; recent = tag }
+
+abbrev pub opened : BulkOut → ℕ → ℕ → ℕ → BulkOut
+opened o tag size end = holding (tagged o tag) (o .message) (record { left = size; got = 0; end = end })
 
 -- "An accepted REQUEST opens the transfer." No reply is longer than its store, so that more than this is asked for need not be kept
 abbrev pub requested : BulkIn → ℕ → ℕ → ℕ → ℕ → BulkIn
-requested b tag size enabled term = record {
-  at = b .at;
-  unsent = b .unsent;
-  asked = min size STORE;
-  left = 0;
-  sent = 0;
-  enabled = enabled;
-  term = term;
-  phase = ASKED;
-  tag = tag;
-  halted = b .halted;
-  recent = tag;
-}
+requested b tag size enabled term =
+    record { reply = b .reply; transfer = askedIn tag (min size STORE) enabled term; halted = b .halted; recent = tag }
 
 -- ** what that leaves
 
-abbrev pub plain : State → ℕ → Plan
-plain st number = record { state = st; number = number; tells = TELLS-NOTHING; from = 0; count = 0 }
+-- a state and a verdict, and no data
+abbrev pub plain : State → Verdict → Plan
+plain st verdict = record { state = st; verdict = verdict; from = 0; count = 0 }
 
 -- "A header is accepted when its packet is answered 0"
 unfoldable pub accepted : State → Header → ℕ → Plan
 accepted st (Message tag size end) count = record {
-  state = withRemote (withOut st (absorbed (opened (outOf st) tag size end) count)) (withRenOn headed (st .small .port .ren) (st .remote));
-  number = DONE;
-  tells = TELLS-NOTHING;
+  state = withRemote (withOut st (absorbed (opened (outOf st) tag size end) count)) (withRenOn headed (portOf st .ren) (st .remote));
+  verdict = done;
   from = HEADER;
   count = count;
 }
 accepted st (Request tag size enabled term) count =
-    plain (withIn (withOut st (tagged (outOf st) tag)) (requested (inOf st) tag size enabled term)) DONE
-accepted st (Trigger tag) count =
-    record { state = withOut st (tagged (outOf st) tag); number = DONE; tells = TELLS-TRIGGER; from = 0; count = 0 }
+    plain (withIn (withOut st (tagged (outOf st) tag)) (requested (inOf st) tag size enabled term)) done
+accepted st (Trigger tag) count = plain (withOut st (tagged (outOf st) tag)) (record { number = DONE; tells = TELLS-TRIGGER })
 
 -- "all unchanged"; "OUT halted"; data; a header
 unfoldable pub planned : State → Outcome → Plan
-planned st (Keep number) = plain st number
-planned st (Halt number) = plain (haltedOut st) number
-planned st (Data count) = record { state = withOut st (absorbed (outOf st) count); number = DONE; tells = TELLS-NOTHING; from = 0; count = count }
+planned st (Keep number) = plain st (only number)
+planned st (Halt number) = plain (haltedOut st) (only number)
+planned st (Data count) = record { state = withOut st (absorbed (outOf st) count); verdict = done; from = 0; count = count }
 planned st (Accept h count) = accepted st h count
 
 unfoldable pub outPlan : State → List ℕ → Plan
@@ -160,7 +147,8 @@ outPlan st s = planned st (outcome st s)
 -- ** what can be carried out without a sum that passes its type: every outcome can, and the code that does it leans on that
 
 abbrev pub CanAbsorb : BulkOut → ℕ → Type 0
-CanAbsorb o count = (count ≤ o .left) × (o .held + o .left ≤ STORE) × (o .got + o .left ≤ STORE)
+CanAbsorb o count =
+    (count ≤ o .transfer .left) × (o .message .held + o .transfer .left ≤ STORE) × (o .transfer .got + o .transfer .left ≤ STORE)
 
 abbrev pub CanAccept : State → Header → ℕ → Type 0
 CanAccept st (Message tag size end) count = CanAbsorb (opened (outOf st) tag size end) count
@@ -175,4 +163,4 @@ Can st (Accept h count) = CanAccept st h count
 
 -- the data of a plan stands in the packet, and has room behind what is held
 abbrev pub Room : State → List ℕ → Plan → Type 0
-Room st s plan = (plan .from + plan .count ≤ length s) × ((plan .count ≡ 0 → ⊥) → outOf st .held + plan .count ≤ STORE)
+Room st s plan = (plan .from + plan .count ≤ length s) × ((plan .count ≡ 0 → ⊥) → outOf st .message .held + plan .count ≤ STORE)

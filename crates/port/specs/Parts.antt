@@ -1,13 +1,16 @@
--- The parts of a unit: their numbers, the tests on them, and one part set while the others stay. 01, "The unit".
+-- The parts of a unit: their numbers, the tests on them, what each is when it is empty, and one part set while the others stay. 01, "The unit".
 -- Assumes nothing.
 use Prim.Native.Nat.{ℕ}
 use mathlib.Core.Bool.{Bool, true, false}
-use mathlib.Core.List.{List}
 use Rattle.rules.specs.Choice.{_=ᵇ_, _≠ᵇ_, _or_, _and_, pick}
 use Rattle.wire.specs.Header.{OFF, ON}
 use Rattle.port.specs.declared.types.Setting.{Setting}
 use Rattle.port.specs.declared.types.Port.{Port}
+use Rattle.port.specs.declared.types.OutMessage.{OutMessage}
+use Rattle.port.specs.declared.types.OutTransfer.{OutTransfer}
 use Rattle.port.specs.declared.types.BulkOut.{BulkOut}
+use Rattle.port.specs.declared.types.InReply.{InReply}
+use Rattle.port.specs.declared.types.InTransfer.{InTransfer}
 use Rattle.port.specs.declared.types.BulkIn.{BulkIn}
 use Rattle.port.specs.declared.types.Small.{Small}
 use Rattle.port.specs.declared.types.Split.{Split}
@@ -50,22 +53,22 @@ on flag = flag =ᵇ ON
 
 -- "An OUT transfer is open from its header until complete"
 abbrev pub isOpenOut : BulkOut → Bool
-isOpenOut o = o .left ≠ᵇ 0
+isOpenOut o = o .transfer .left ≠ᵇ 0
 
 -- a message is unfinished: a part of it has come
 abbrev pub unfinished : BulkOut → Bool
-unfinished o = o .ready =ᵇ OFF and o .held ≠ᵇ 0
+unfinished o = o .message .ready =ᵇ OFF and o .message .held ≠ᵇ 0
 
 -- "an IN transfer from its REQUEST until its short packet"
 abbrev pub isOpenIn : BulkIn → Bool
-isOpenIn b = b .phase ≠ᵇ CLOSED
+isOpenIn b = b .transfer .phase ≠ᵇ CLOSED
 
 abbrev pub isOwed : BulkIn → Bool
-isOwed b = b .phase =ᵇ OWED
+isOwed b = b .transfer .phase =ᵇ OWED
 
 -- "The reply is gone when a transfer with D0 closes": until then it is stored, with no byte unsent perhaps
 abbrev pub hasReply : BulkIn → Bool
-hasReply b = b .unsent ≠ᵇ 0 or b .phase =ᵇ SENDING
+hasReply b = b .reply .unsent ≠ᵇ 0 or b .transfer .phase =ᵇ SENDING
 
 abbrev pub isNone : Split → Bool
 isNone None = true
@@ -88,8 +91,8 @@ isClear Clear = true
 
 -- ** fields, by short ways
 
-abbrev pub packetSize : State → ℕ
-packetSize st = st .small .port .setting .packet
+abbrev pub portOf : State → Port
+portOf st = st .small .port
 
 abbrev pub outOf : State → BulkOut
 outOf st = st .small .bulkout
@@ -97,8 +100,39 @@ outOf st = st .small .bulkout
 abbrev pub inOf : State → BulkIn
 inOf st = st .small .bulkin
 
+abbrev pub packetSize : State → ℕ
+packetSize st = portOf st .setting .packet
+
 abbrev pub isConfigured : State → Bool
-isConfigured st = on (st .small .port .configured)
+isConfigured st = on (portOf st .configured)
+
+-- ** a message, a reply and a transfer: nothing is held, nothing is stored, the transfer is closed; and the phases of an IN transfer
+
+abbrev pub noMessage : OutMessage
+noMessage = record { held = 0; ready = OFF }
+
+abbrev pub closedOut : OutTransfer
+closedOut = record { left = 0; got = 0; end = OFF }
+
+abbrev pub noReply : InReply
+noReply = record { at = 0; unsent = 0 }
+
+-- phase, tag; asked, enabled, term; left, sent
+abbrev pub transferIn : ℕ → ℕ → ℕ → ℕ → ℕ → ℕ → ℕ → InTransfer
+transferIn phase tag asked enabled term left sent =
+    record { phase = phase; tag = tag; asked = asked; enabled = enabled; term = term; left = left; sent = sent }
+
+abbrev pub closedIn : InTransfer
+closedIn = transferIn CLOSED 0 0 OFF 0 0 0
+
+abbrev pub askedIn : ℕ → ℕ → ℕ → ℕ → InTransfer
+askedIn tag asked enabled term = transferIn ASKED tag asked enabled term 0 0
+
+abbrev pub sendingIn : ℕ → ℕ → ℕ → InTransfer
+sendingIn tag left sent = transferIn SENDING tag 0 OFF 0 left sent
+
+abbrev pub owedIn : ℕ → InTransfer
+owedIn tag = transferIn OWED tag 0 OFF 0 0 0
 
 -- ** one part set, the others kept
 
@@ -106,10 +140,10 @@ abbrev pub withPort : State → Port → State
 withPort st p = record { small = record { port = p; bulkout = outOf st; bulkin = inOf st }; split = st .split; remote = st .remote }
 
 abbrev pub withOut : State → BulkOut → State
-withOut st o = record { small = record { port = st .small .port; bulkout = o; bulkin = inOf st }; split = st .split; remote = st .remote }
+withOut st o = record { small = record { port = portOf st; bulkout = o; bulkin = inOf st }; split = st .split; remote = st .remote }
 
 abbrev pub withIn : State → BulkIn → State
-withIn st b = record { small = record { port = st .small .port; bulkout = outOf st; bulkin = b }; split = st .split; remote = st .remote }
+withIn st b = record { small = record { port = portOf st; bulkout = outOf st; bulkin = b }; split = st .split; remote = st .remote }
 
 abbrev pub withSplit : State → Split → State
 withSplit st s = record { small = st .small; split = s; remote = st .remote }
@@ -123,42 +157,25 @@ withRen p r = record { setting = p .setting; configured = p .configured; ren = r
 abbrev pub withStatus : Port → ℕ → Port
 withStatus p s = record { setting = p .setting; configured = p .configured; ren = p .ren; status = s }
 
+-- the message and the transfer of Bulk-OUT; the reply and the transfer of Bulk-IN
+abbrev pub holding : BulkOut → OutMessage → OutTransfer → BulkOut
+holding o m t = record { message = m; transfer = t; halted = o .halted; recent = o .recent }
+
+abbrev pub carrying : BulkIn → InReply → InTransfer → BulkIn
+carrying b r t = record { reply = r; transfer = t; halted = b .halted; recent = b .recent }
+
 abbrev pub withInHalted : BulkIn → ℕ → BulkIn
-withInHalted b h = record {
-  at = b .at;
-  unsent = b .unsent;
-  asked = b .asked;
-  left = b .left;
-  sent = b .sent;
-  enabled = b .enabled;
-  term = b .term;
-  phase = b .phase;
-  tag = b .tag;
-  halted = h;
-  recent = b .recent;
-}
+withInHalted b h = record { reply = b .reply; transfer = b .transfer; halted = h; recent = b .recent }
 
 -- ** power-on
 
 -- nothing held, no transfer open
 abbrev pub emptyOut : ℕ → ℕ → BulkOut
-emptyOut halted recent = record { held = 0; left = 0; got = 0; end = OFF; ready = OFF; halted = halted; recent = recent }
+emptyOut halted recent = record { message = noMessage; transfer = closedOut; halted = halted; recent = recent }
 
--- no reply stored, and no transfer but, in the phase `phase`, the one of `tag`
-abbrev pub emptyIn : ℕ → ℕ → ℕ → ℕ → BulkIn
-emptyIn phase tag halted recent = record {
-  at = 0;
-  unsent = 0;
-  asked = 0;
-  left = 0;
-  sent = 0;
-  enabled = OFF;
-  term = 0;
-  phase = phase;
-  tag = tag;
-  halted = halted;
-  recent = recent;
-}
+-- no reply stored, and no transfer but this one
+abbrev pub emptyIn : InTransfer → ℕ → ℕ → BulkIn
+emptyIn transfer halted recent = record { reply = noReply; transfer = transfer; halted = halted; recent = recent }
 
 -- "unconfigured, with nothing stored, open, halted or in progress, REN off, LOCS, status byte 0"; "1 configured, 0 not"
 unfoldable pub fresh : Setting → ℕ → State
@@ -166,41 +183,25 @@ fresh setting configured = record {
   small = record {
     port = record { setting = setting; configured = configured; ren = OFF; status = 0 };
     bulkout = emptyOut OFF 0;
-    bulkin = emptyIn CLOSED 0 OFF 0;
+    bulkin = emptyIn closedIn OFF 0;
   };
   split = None;
   remote = Locs;
 }
 
--- ** breaks
+-- ** what ends
 
--- "A halt of Bulk-OUT .. drops the open OUT transfer and the unfinished message, but not a ready one"; `halted`: the halt after it
+-- "the unfinished message, but not a ready one"
+abbrev pub unbroken : OutMessage → OutMessage
+unbroken m = pick (on (m .ready)) m noMessage
+
+-- "A halt of Bulk-OUT .. drops the open OUT transfer and the unfinished message"; `halted`: the halt after it
 unfoldable pub broken : ℕ → BulkOut → BulkOut
-broken halted o = record {
-  held = pick (on (o .ready)) (o .held) 0;
-  left = 0;
-  got = 0;
-  end = OFF;
-  ready = o .ready;
-  halted = halted;
-  recent = o .recent;
-}
+broken halted o = record { message = unbroken (o .message); transfer = closedOut; halted = halted; recent = o .recent }
 
 abbrev pub haltedOut : State → State
 haltedOut st = withOut st (broken ON (outOf st))
 
 -- the IN transfer closes; what is unsent of the reply stays
 unfoldable pub shut : BulkIn → BulkIn
-shut b = record {
-  at = b .at;
-  unsent = b .unsent;
-  asked = 0;
-  left = 0;
-  sent = 0;
-  enabled = OFF;
-  term = 0;
-  phase = CLOSED;
-  tag = 0;
-  halted = b .halted;
-  recent = b .recent;
-}
+shut b = carrying b (b .reply) closedIn

@@ -3,7 +3,7 @@
 use Prim.Native.Nat.{ℕ}
 use Rattle.rules.specs.Choice.{pick}
 use Rattle.wire.specs.Header.{OFF}
-use Rattle.port.specs.Parts.{on, withPort, withRemote, withRen}
+use Rattle.port.specs.Parts.{on, portOf, withPort, withRemote, withRen}
 use Rattle.port.specs.declared.types.State.{State}
 use Rattle.port.specs.declared.types.Remote.{Remote}
 use Rattle.port.specs.declared.types.Remote.the-variants.{Locs, Rems, Lwls, Rwls}
@@ -42,4 +42,4 @@ withRenOn move ren r = pick (on ren) (move r) r
 
 -- "REN off, suspend, reset and SET_CONFIGURATION give LOCS and REN off"
 unfoldable pub localNow : State → State
-localNow st = withRemote (withPort st (withRen (st .small .port) OFF)) Locs
+localNow st = withRemote (withPort st (withRen (portOf st) OFF)) Locs

@@ -6,9 +6,11 @@ use mathlib.Core.Bool.{Bool, false}
 use mathlib.Core.List.{List, []}
 use Rattle.rules.specs.Choice.{_=ᵇ_, _≠ᵇ_, _≤ᵇ_, no, _or_, _and_, pick, _⇒_∣_, first, _&_, all, implies}
 use Rattle.wire.specs.Header.{OFF, ON}
-use Rattle.port.specs.Parts.{STORE, isSize, CLOSED, ASKED, SENDING, OWED, on, isOpenOut, isOwed, outOf, inOf}
+use Rattle.port.specs.Parts.{STORE, isSize, CLOSED, ASKED, SENDING, OWED, on, isOpenOut, isOwed, portOf, outOf, inOf}
 use Rattle.port.specs.declared.types.Port.{Port}
+use Rattle.port.specs.declared.types.OutMessage.{OutMessage}
 use Rattle.port.specs.declared.types.BulkOut.{BulkOut}
+use Rattle.port.specs.declared.types.InTransfer.{InTransfer}
 use Rattle.port.specs.declared.types.BulkIn.{BulkIn}
 use Rattle.port.specs.declared.types.Split.{Split}
 use Rattle.port.specs.declared.types.Split.the-variants.{None, AbortOut, AbortIn, Clear}
@@ -25,78 +27,89 @@ unfoldable pub openSound : BulkOut → Bool
 openSound o =
     all
     (o .halted =ᵇ OFF &
-    o .ready =ᵇ OFF &
-    isFlag (o .end) &
+    o .message .ready =ᵇ OFF &
+    isFlag (o .transfer .end) &
     o .recent ≠ᵇ 0 &
-    o .got ≠ᵇ 0 &
-    o .got ≤ᵇ o .held &
-    o .held ≤ᵇ STORE &
-    o .left ≤ᵇ STORE - o .held & [])
+    o .transfer .got ≠ᵇ 0 &
+    o .transfer .got ≤ᵇ o .message .held &
+    o .message .held ≤ᵇ STORE &
+    o .transfer .left ≤ᵇ STORE - o .message .held & [])
 
 -- a ready message has a byte; a halted Bulk-OUT holds no part of an unfinished one
-unfoldable pub heldSound : BulkOut → Bool
-heldSound o =
+unfoldable pub heldSound : ℕ → OutMessage → Bool
+heldSound halted m =
     all
-    (implies (on (o .ready)) (o .held ≠ᵇ 0) &
-    implies (on (o .halted) and no (on (o .ready))) (o .held =ᵇ 0) & [])
+    (implies (on (m .ready)) (m .held ≠ᵇ 0) &
+    implies (on halted and no (on (m .ready))) (m .held =ᵇ 0) & [])
 
 unfoldable pub restingSound : BulkOut → Bool
 restingSound o =
-    all (isFlag (o .halted) & isFlag (o .ready) & o .end =ᵇ OFF & o .got =ᵇ 0 & o .held ≤ᵇ STORE & heldSound o & [])
+    all
+    (isFlag (o .halted) &
+    isFlag (o .message .ready) &
+    o .transfer .end =ᵇ OFF &
+    o .transfer .got =ᵇ 0 &
+    o .message .held ≤ᵇ STORE &
+    heldSound (o .halted) (o .message) & [])
 
 unfoldable pub outSound : BulkOut → Bool
 outSound o = pick (isOpenOut o) (openSound o) (restingSound o)
 
 -- what a phase leaves unused is 0; what it uses is in range
-unfoldable pub unasked : BulkIn → Bool
-unasked b = all (b .asked =ᵇ 0 & b .enabled =ᵇ OFF & b .term =ᵇ 0 & [])
+unfoldable pub unasked : InTransfer → Bool
+unasked t = all (t .asked =ᵇ 0 & t .enabled =ᵇ OFF & t .term =ᵇ 0 & [])
 
-unfoldable pub unsending : BulkIn → Bool
-unsending b = all (b .left =ᵇ 0 & b .sent =ᵇ 0 & [])
+unfoldable pub unsending : InTransfer → Bool
+unsending t = all (t .left =ᵇ 0 & t .sent =ᵇ 0 & [])
 
-unfoldable pub idle : BulkIn → Bool
-idle b = all (unasked b & unsending b & [])
+unfoldable pub idle : InTransfer → Bool
+idle t = all (unasked t & unsending t & [])
 
-unfoldable pub askedSound : BulkIn → Bool
-askedSound b =
+unfoldable pub askedSound : InTransfer → Bool
+askedSound t =
     all
-    (b .tag ≠ᵇ 0 &
-    b .asked ≠ᵇ 0 &
-    b .asked ≤ᵇ STORE &
-    isFlag (b .enabled) &
-    implies (b .enabled =ᵇ OFF) (b .term =ᵇ 0) &
-    unsending b & [])
+    (t .tag ≠ᵇ 0 &
+    t .asked ≠ᵇ 0 &
+    t .asked ≤ᵇ STORE &
+    isFlag (t .enabled) &
+    implies (t .enabled =ᵇ OFF) (t .term =ᵇ 0) &
+    unsending t & [])
 
-unfoldable pub sendingSound : BulkIn → Bool
-sendingSound b =
-    all (b .tag ≠ᵇ 0 & b .left ≤ᵇ b .unsent & b .sent ≤ᵇ STORE & b .left ≤ᵇ STORE - b .sent & unasked b & [])
+-- of a reply with so many bytes unsent
+unfoldable pub sendingSound : ℕ → InTransfer → Bool
+sendingSound unsent t = all (t .tag ≠ᵇ 0 & t .left ≤ᵇ unsent & t .sent ≤ᵇ STORE & t .left ≤ᵇ STORE - t .sent & unasked t & [])
 
-unfoldable pub phaseSound : BulkIn → Bool
-phaseSound b =
+unfoldable pub phaseSound : ℕ → InTransfer → Bool
+phaseSound unsent t =
     first
-    (b .phase =ᵇ CLOSED ⇒ all (b .tag =ᵇ 0 & idle b & []) ∣
-    b .phase =ᵇ ASKED ⇒ askedSound b ∣
-    b .phase =ᵇ SENDING ⇒ sendingSound b ∣
-    b .phase =ᵇ OWED ⇒ all (b .tag ≠ᵇ 0 & idle b & []) ∣ [])
+    (t .phase =ᵇ CLOSED ⇒ all (t .tag =ᵇ 0 & idle t & []) ∣
+    t .phase =ᵇ ASKED ⇒ askedSound t ∣
+    t .phase =ᵇ SENDING ⇒ sendingSound unsent t ∣
+    t .phase =ᵇ OWED ⇒ all (t .tag ≠ᵇ 0 & idle t & []) ∣ [])
     false
 
 unfoldable pub inSound : BulkIn → Bool
-inSound b = all (isFlag (b .halted) & b .at ≤ᵇ STORE & b .unsent ≤ᵇ STORE - b .at & phaseSound b & [])
+inSound b =
+    all
+    (isFlag (b .halted) &
+    b .reply .at ≤ᵇ STORE &
+    b .reply .unsent ≤ᵇ STORE - b .reply .at &
+    phaseSound (b .reply .unsent) (b .transfer) & [])
 
 -- "a clear": Bulk-OUT halted, nothing held, no reply, both recent tags 0, and an IN transfer open only while its packet is owed
 unfoldable pub clearSound : BulkOut → BulkIn → Bool
 clearSound o b =
     all
     (on (o .halted) &
-    o .held =ᵇ 0 &
+    o .message .held =ᵇ 0 &
     o .recent =ᵇ 0 &
-    b .unsent =ᵇ 0 &
+    b .reply .unsent =ᵇ 0 &
     b .recent =ᵇ 0 &
-    (b .phase =ᵇ CLOSED or isOwed b) & [])
+    (b .transfer .phase =ᵇ CLOSED or isOwed b) & [])
 
 -- a packet is owed only in abort-IN or clear, and an abort-OUT keeps the halt
 unfoldable pub notOwed : BulkIn → Bool
-notOwed b = all (b .phase ≠ᵇ OWED & [])
+notOwed b = all (b .transfer .phase ≠ᵇ OWED & [])
 
 unfoldable pub abortOutSound : ℕ → BulkOut → BulkIn → Bool
 abortOutSound count o b = all (count ≤ᵇ STORE & on (o .halted) & notOwed b & [])
@@ -110,7 +123,7 @@ splitSound Clear o b = clearSound o b
 unfoldable pub sound : State → Bool
 sound st =
     all
-    (portSound (st .small .port) &
+    (portSound (portOf st) &
     outSound (outOf st) &
     inSound (inOf st) &
     splitSound (st .split) (outOf st) (inOf st) & [])

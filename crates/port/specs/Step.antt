@@ -2,34 +2,57 @@
 -- Assumes nothing.
 use Prim.Native.Nat.{ℕ}
 use mathlib.Core.List.{List, [], _∷_}
-use Rattle.port.specs.In.{Answer}
-use Rattle.port.specs.Device.{Device, Result}
-use Rattle.port.specs.Calls.{bulkOut, bulkIn, setup, take-message, offer, setStatus, panel, busReset, suspend}
+use Rattle.rules.specs.Choice.{pick}
+use Rattle.rules.specs.Answers.{UNSOUND}
+use Rattle.port.specs.Answer.{Answer}
+use Rattle.port.specs.Device.{Device, Result, isSound}
+use Rattle.port.specs.Calls.{refused, bulkOut, bulkIn, setup, take-message, offer, setStatus, panel, busReset, suspend}
 
--- the nine calls; a number stands for the length of a lent buffer
+-- what a setup packet is given: its bytes, and the length of the control buffer
+pub record SetupPacket : Type 0 where
+  pub packet : List ℕ
+  pub room : ℕ
+
+-- the nine calls; a number stands for the length of a lent buffer. Those that bring, take and break no message are one kind, so that a definition
+-- or a proof about messages has one line for them
+pub data Quiet : Type 0 where
+  in-poll : ℕ → Quiet
+  offer-reply : List ℕ → Quiet
+  set-status : ℕ → Quiet
+  front-panel bus-suspend : Quiet
+
 pub data Call : Type 0 where
-  setup-packet : List ℕ → ℕ → Call
+  setup-packet : SetupPacket → Call
   out-packet : List ℕ → Call
-  in-poll : ℕ → Call
   take-into : ℕ → Call
-  offer-reply : List ℕ → Call
-  set-status : ℕ → Call
-  front-panel bus-reset bus-suspend : Call
+  bus-reset : Call
+  quiet : Quiet → Call
+
+abbrev pub setup-of : List ℕ → ℕ → Call
+setup-of s room = setup-packet (record { packet = s; room = room })
 
 -- what a unit of any kind does with a call: the statements take it as a parameter
 abbrev pub Stepping : Type 0
 Stepping = Device → Call → Result
 
+-- what a sound unit does
+unfoldable pub quietly : Device → Quiet → Result
+quietly u (in-poll room) = bulkIn u room
+quietly u (offer-reply bytes) = offer u bytes
+quietly u (set-status status) = setStatus u status
+quietly u front-panel = panel u
+quietly u bus-suspend = suspend u
+
+unfoldable pub soundly : Stepping
+soundly u (setup-packet p) = setup u (p .packet) (p .room)
+soundly u (out-packet s) = bulkOut u s
+soundly u (take-into room) = take-message u room
+soundly u bus-reset = busReset u
+soundly u (quiet q) = quietly u q
+
+-- "only an unsound unit is answered 1", and that is the first thing that every call asks
 unfoldable pub step : Stepping
-step u (setup-packet s room) = setup u s room
-step u (out-packet s) = bulkOut u s
-step u (in-poll room) = bulkIn u room
-step u (take-into room) = take-message u room
-step u (offer-reply bytes) = offer u bytes
-step u (set-status status) = setStatus u status
-step u front-panel = panel u
-step u bus-reset = busReset u
-step u bus-suspend = suspend u
+step u c = pick (isSound u) (soundly u c) (refused u UNSOUND)
 
 -- the answers of a run, and the unit after it
 unfoldable pub run : Stepping → Device → List Call → List Answer

@@ -1,5 +1,8 @@
 // The parts of a unit but for its two stores, and what is decided over them. Flags are bytes, 0 or 1, as C has them in a unit.
+use rules::verdict::Verdict;
+use wire::types::Endpoint;
 use wire::types::Header;
+use wire::types::Row;
 
 // Bytes that a store holds.
 pub const STORE: u16 = 1024;
@@ -32,33 +35,55 @@ pub struct Port {
     pub status: u8,
 }
 
-// Bulk-OUT and the message that comes by it: `held` data bytes are in the store. A transfer is open while `left` data bytes of it are to
-// come; `got` have come, and `end` is its EOM. `recent` is the most recent tag, which is the open transfer's own.
+// The message that comes in: `held` data bytes of it are in the store, and it is `ready` once it is whole.
 #[repr(C)]
-pub struct BulkOut {
+pub struct OutMessage {
     pub held: u16,
+    pub ready: u8,
+}
+
+// A Bulk-OUT transfer is open while `left` data bytes of it are to come; `got` have come, and `end` is its EOM.
+#[repr(C)]
+pub struct OutTransfer {
     pub left: u16,
     pub got: u16,
     pub end: u8,
-    pub ready: u8,
+}
+
+// Bulk-OUT. `recent` is the most recent tag, which is the open transfer's own.
+#[repr(C)]
+pub struct BulkOut {
+    pub message: OutMessage,
+    pub transfer: OutTransfer,
     pub halted: u8,
     pub recent: u8,
 }
 
-// Bulk-IN and the reply that goes by it: its `unsent` bytes stand in the store from `at` on. `phase` says how far the transfer of `tag`
-// is: closed, asked (for `asked` bytes, up to `term` where `enabled`), sending (`sent` data bytes have gone, `left` are to go) or owed,
-// where only the empty packet is to go.
+// The reply that goes out: its `unsent` bytes stand in the store from `at` on.
 #[repr(C)]
-pub struct BulkIn {
+pub struct InReply {
     pub at: u16,
     pub unsent: u16,
-    pub asked: u16,
-    pub left: u16,
-    pub sent: u16,
-    pub enabled: u8,
-    pub term: u8,
+}
+
+// A Bulk-IN transfer. `phase` says how far that of `tag` is: closed, asked (for `asked` bytes, up to `term` where `enabled`), sending
+// (`sent` data bytes have gone, `left` are to go) or owed, where only the empty packet is to go.
+#[repr(C)]
+pub struct InTransfer {
     pub phase: u8,
     pub tag: u8,
+    pub asked: u16,
+    pub enabled: u8,
+    pub term: u8,
+    pub left: u16,
+    pub sent: u16,
+}
+
+// Bulk-IN. `recent` is the most recent tag.
+#[repr(C)]
+pub struct BulkIn {
+    pub reply: InReply,
+    pub transfer: InTransfer,
     pub halted: u8,
     pub recent: u8,
 }
@@ -102,19 +127,38 @@ pub enum Outcome {
     Accept { header: Header, count: usize },
 }
 
-// What that leaves: the state after the packet, the number, what it tells, and its data: `count` bytes from `from` on.
+// What a call leaves that stores bytes: the state after it, the verdict, and its data: `count` bytes from `from` on.
 pub struct Plan {
     pub state: State,
-    pub number: u8,
-    pub tells: u8,
+    pub verdict: Verdict,
     pub from: usize,
     pub count: usize,
 }
 
-// What a call leaves whose bytes go into a lent buffer: the state after it, the number, what it tells, and how many bytes it wrote.
+// What a call leaves whose bytes go into a lent buffer: the state after it, the verdict, and how many bytes it wrote.
 pub struct Given {
     pub state: State,
-    pub number: u8,
-    pub tells: u8,
+    pub verdict: Verdict,
     pub len: usize,
+}
+
+// What a setup packet comes to: a number with nothing changed, SET_CONFIGURATION, or a row that is answered.
+pub enum SetupOutcome {
+    Denies { number: u8 },
+    Renews { value: u8 },
+    Answers { row: Row },
+}
+
+// What an answered row does to the state.
+pub enum Effect {
+    Stays,
+    AbortsOut,
+    AbortsIn,
+    Clears,
+    EndsSplit,
+    SetsRen { on: u8 },
+    GoesToLocal,
+    LocksOut,
+    ClearsHalt { endpoint: Endpoint },
+    SetsHalt { endpoint: Endpoint },
 }

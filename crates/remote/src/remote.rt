@@ -9,7 +9,7 @@ ghost use Prim.Native.Nat.{ℕ};
 ghost use Rattle.port.specs.Remote.{toLocal, byPanel, lockedOut, withRenOn, localNow, headed};
 
 // A DEV_DEP_MSG_OUT header moves the remote/local state while REN is on.
-pub fn heard(ren: u8, r: Remote) -> Remote
+pub fn headed(ren: u8, r: Remote) -> Remote
     ensures { λ x. ⌜ x ≡ withRenOn headed ren r ⌝ }
 {
     if ren == 1 {

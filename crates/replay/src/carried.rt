@@ -35,7 +35,8 @@ fn narrow(n: usize) -> u16 {
 // The answer to a call that is lent no buffer.
 pub fn answered(done: Done, out: &mut [u8], at: usize) -> Played {
     let unit = done.unit;
-    let end = put_done(out, at, done.number, done.tells);
+    let verdict = done.verdict;
+    let end = put_done(out, at, verdict);
     Played { unit, at: end }
 }
 

@@ -17,7 +17,8 @@ fn first_lent(buffer: &mut [u8], n: usize) -> &mut [u8] {
 
 fn answered(told: Told, buffer: &[u8], out: &mut [u8], at: usize) -> Played {
     let unit = told.unit;
-    let end = put_told(out, at, told.number, told.tells, told.len, buffer);
+    let verdict = told.verdict;
+    let end = put_told(out, at, verdict, told.len, buffer);
     Played { unit, at: end }
 }
 

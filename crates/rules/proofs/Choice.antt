@@ -155,6 +155,12 @@ pub ruleset tests = (ne-neb, eq-neb, eq-eqb, ne-eqb, lt-ltb, le-ltb, le-leb, lt-
 
 pub ruleset picks = (pick-self, by-key, pick-true, pick-false, tests)
 
+-- what is made of a choice is a choice
+pub pick-map : {A B : Type 0} (f : A → B) (t : Bool) (a b : A) → pick t (f a) (f b) ≡ f (pick t a b)
+unfolding pick
+pick-map f true a b = refl
+pick-map f false a b = refl
+
 pub at-true : {A : Type 0} (t : Bool) (a b : A) → t ≡ true → pick t a b ≡ a
 unfolding pick
 at-true t a b e = rw e

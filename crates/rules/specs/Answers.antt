@@ -3,6 +3,7 @@
 use Prim.Native.Nat.{ℕ}
 use mathlib.Core.List.{List, [], _∷_}
 use Rattle.rules.specs.Choice.{pick, _=ᵇ_}
+use Rattle.rules.specs.declared.verdict.Verdict.{Verdict}
 
 -- ** 01, "What each number returns and leaves": given when
 
@@ -122,3 +123,12 @@ TELLS-TRIGGER = 1
 
 abbrev pub TELLS-PULSE : ℕ
 TELLS-PULSE = 2
+
+-- ** what every answer says beside its bytes: the number, and what it tells
+
+-- a number that tells nothing
+abbrev pub only : ℕ → Verdict
+only n = record { number = n; tells = TELLS-NOTHING }
+
+abbrev pub done : Verdict
+done = only DONE

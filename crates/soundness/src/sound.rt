@@ -1,11 +1,15 @@
 // Whether a unit is sound, part by part.
+use port::types::ASKED;
 use port::types::BulkIn;
 use port::types::BulkOut;
 use port::types::CLOSED;
 use port::types::FULL_SPEED;
 use port::types::HIGH_SPEED;
+use port::types::InTransfer;
 use port::types::OWED;
+use port::types::OutMessage;
 use port::types::Port;
+use port::types::SENDING;
 use port::types::STORE;
 use port::types::Split;
 use port::types::State;
@@ -49,42 +53,42 @@ fn open_sound(o: BulkOut) -> bool
     if o.halted != 0 {
         return false;
     }
-    if o.ready != 0 {
+    if o.message.ready != 0 {
         return false;
     }
-    if 1 < o.end {
+    if 1 < o.transfer.end {
         return false;
     }
     if o.recent == 0 {
         return false;
     }
-    if o.got == 0 {
+    if o.transfer.got == 0 {
         return false;
     }
-    if o.held < o.got {
+    if o.message.held < o.transfer.got {
         return false;
     }
-    if STORE < o.held {
+    if STORE < o.message.held {
         return false;
     }
-    if STORE - o.held < o.left {
+    if STORE - o.message.held < o.transfer.left {
         return false;
     }
     true
 }
 
 // What a message may hold between transfers.
-fn held_sound(o: BulkOut) -> bool
-    ensures { λ r. ⌜ r ≡ heldSound o ⌝ }
+fn held_sound(halted: u8, m: OutMessage) -> bool
+    ensures { λ r. ⌜ r ≡ heldSound halted m ⌝ }
 {
-    if o.ready == 1 {
-        if o.held == 0 {
+    if m.ready == 1 {
+        if m.held == 0 {
             return false;
         }
         return true;
     }
-    if o.halted == 1 {
-        if o.held != 0 {
+    if halted == 1 {
+        if m.held != 0 {
             return false;
         }
         return true;
@@ -99,122 +103,124 @@ fn resting_sound(o: BulkOut) -> bool
     if 1 < o.halted {
         return false;
     }
-    if 1 < o.ready {
+    if 1 < o.message.ready {
         return false;
     }
-    if o.end != 0 {
+    if o.transfer.end != 0 {
         return false;
     }
-    if o.got != 0 {
+    if o.transfer.got != 0 {
         return false;
     }
-    if STORE < o.held {
+    if STORE < o.message.held {
         return false;
     }
-    held_sound(o)
+    let m = o.message;
+    held_sound(o.halted, m)
 }
 
 fn out_sound(o: BulkOut) -> bool
     ensures { λ r. ⌜ r ≡ outSound o ⌝ }
 {
-    if o.left == 0 {
+    if o.transfer.left == 0 {
         return resting_sound(o);
     }
     open_sound(o)
 }
 
 // No REQUEST waits for its first packet.
-fn unasked(b: BulkIn) -> bool
-    ensures { λ r. ⌜ r ≡ unasked b ⌝ }
+fn unasked(t: InTransfer) -> bool
+    ensures { λ r. ⌜ r ≡ unasked t ⌝ }
 {
-    if b.asked != 0 {
+    if t.asked != 0 {
         return false;
     }
-    if b.enabled != 0 {
+    if t.enabled != 0 {
         return false;
     }
-    b.term == 0
+    t.term == 0
 }
 
 // No data byte of a transfer is on its way.
-fn unsending(b: BulkIn) -> bool
-    ensures { λ r. ⌜ r ≡ unsending b ⌝ }
+fn unsending(t: InTransfer) -> bool
+    ensures { λ r. ⌜ r ≡ unsending t ⌝ }
 {
-    if b.left != 0 {
+    if t.left != 0 {
         return false;
     }
-    b.sent == 0
+    t.sent == 0
 }
 
-fn asked_sound(b: BulkIn) -> bool
-    ensures { λ r. ⌜ r ≡ askedSound b ⌝ }
+fn asked_sound(t: InTransfer) -> bool
+    ensures { λ r. ⌜ r ≡ askedSound t ⌝ }
 {
-    if b.tag == 0 {
+    if t.tag == 0 {
         return false;
     }
-    if b.asked == 0 {
+    if t.asked == 0 {
         return false;
     }
-    if STORE < b.asked {
+    if STORE < t.asked {
         return false;
     }
-    if 1 < b.enabled {
+    if 1 < t.enabled {
         return false;
     }
-    if b.enabled == 0 {
-        if b.term != 0 {
+    if t.enabled == 0 {
+        if t.term != 0 {
             return false;
         }
-        return unsending(b);
+        return unsending(t);
     }
-    unsending(b)
+    unsending(t)
 }
 
-fn sending_sound(b: BulkIn) -> bool
-    ensures { λ r. ⌜ r ≡ sendingSound b ⌝ }
+// Of a reply with so many bytes unsent.
+fn sending_sound(unsent: u16, t: InTransfer) -> bool
+    ensures { λ r. ⌜ r ≡ sendingSound unsent t ⌝ }
 {
-    if b.tag == 0 {
+    if t.tag == 0 {
         return false;
     }
-    if b.unsent < b.left {
+    if unsent < t.left {
         return false;
     }
-    if STORE < b.sent {
+    if STORE < t.sent {
         return false;
     }
-    if STORE - b.sent < b.left {
+    if STORE - t.sent < t.left {
         return false;
     }
-    unasked(b)
+    unasked(t)
 }
 
-fn idle(b: BulkIn) -> bool
-    ensures { λ r. ⌜ r ≡ idle b ⌝ }
+fn idle(t: InTransfer) -> bool
+    ensures { λ r. ⌜ r ≡ idle t ⌝ }
 {
-    if unasked(b) {
-        return unsending(b);
+    if unasked(t) {
+        return unsending(t);
     }
     false
 }
 
-fn phase_sound(b: BulkIn) -> bool
-    ensures { λ r. ⌜ r ≡ phaseSound b ⌝ }
+fn phase_sound(unsent: u16, t: InTransfer) -> bool
+    ensures { λ r. ⌜ r ≡ phaseSound unsent t ⌝ }
 {
-    let phase = b.phase;
+    let phase = t.phase;
     match phase {
-        0 => {
-            if b.tag != 0 {
+        CLOSED => {
+            if t.tag != 0 {
                 return false;
             }
-            idle(b)
+            idle(t)
         }
-        1 => asked_sound(b),
-        2 => sending_sound(b),
-        3 => {
-            if b.tag == 0 {
+        ASKED => asked_sound(t),
+        SENDING => sending_sound(unsent, t),
+        OWED => {
+            if t.tag == 0 {
                 return false;
             }
-            idle(b)
+            idle(t)
         }
         _ => false,
     }
@@ -226,13 +232,14 @@ fn in_sound(b: BulkIn) -> bool
     if 1 < b.halted {
         return false;
     }
-    if STORE < b.at {
+    if STORE < b.reply.at {
         return false;
     }
-    if STORE - b.at < b.unsent {
+    if STORE - b.reply.at < b.reply.unsent {
         return false;
     }
-    phase_sound(b)
+    let t = b.transfer;
+    phase_sound(b.reply.unsent, t)
 }
 
 // A clear in progress.
@@ -242,22 +249,22 @@ fn clear_sound(o: BulkOut, b: BulkIn) -> bool
     if o.halted != 1 {
         return false;
     }
-    if o.held != 0 {
+    if o.message.held != 0 {
         return false;
     }
     if o.recent != 0 {
         return false;
     }
-    if b.unsent != 0 {
+    if b.reply.unsent != 0 {
         return false;
     }
     if b.recent != 0 {
         return false;
     }
-    if b.phase == CLOSED {
+    if b.transfer.phase == CLOSED {
         return true;
     }
-    if b.phase == OWED {
+    if b.transfer.phase == OWED {
         return true;
     }
     false
@@ -267,7 +274,7 @@ fn clear_sound(o: BulkOut, b: BulkIn) -> bool
 fn not_owed(b: BulkIn) -> bool
     ensures { λ r. ⌜ r ≡ notOwed b ⌝ }
 {
-    if b.phase == OWED {
+    if b.transfer.phase == OWED {
         return false;
     }
     true

@@ -1,11 +1,11 @@
-// How code hands the answer of a setup packet on.
-use port::types::State;
+// How code hands the answer of a row on.
+use port::types::Effect;
+use rules::verdict::Verdict;
 
-// The state after it, the number, what it tells, and `len` bytes.
+// What the row does to the state, the verdict, and `len` bytes.
 pub struct Control {
-    pub state: State,
-    pub number: u8,
-    pub tells: u8,
+    pub effect: Effect,
+    pub verdict: Verdict,
     pub len: usize,
     pub bytes: [u8; 24],
 }

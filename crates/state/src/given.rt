@@ -1,10 +1,10 @@
 // A state and a number, with no bytes.
 use port::types::Given;
 use port::types::State;
-use rules::TELLS_NOTHING;
+use rules::verdict::only;
 ghost use mathlib.Core.Path.{_≡_};
 ghost use Prim.Native.Nat.{ℕ};
-ghost use Rattle.port.specs.In.{refuse};
+ghost use Rattle.port.specs.Answer.{refuse};
 ghost use Rattle.port.specs.Given.{givenOf};
 
 pub fn given(state: State, number: u8) -> Given
@@ -12,8 +12,7 @@ pub fn given(state: State, number: u8) -> Given
 {
     Given {
         state,
-        number,
-        tells: TELLS_NOTHING,
+        verdict: only(number),
         len: 0,
     }
 }

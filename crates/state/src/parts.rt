@@ -1,16 +1,24 @@
 // One part of the state set, the others kept; the sides as a break or an end leaves them; and tests on a part.
+use port::types::ASKED;
 use port::types::BulkIn;
 use port::types::BulkOut;
 use port::types::CLOSED;
+use port::types::InReply;
+use port::types::InTransfer;
+use port::types::OWED;
+use port::types::OutMessage;
+use port::types::OutTransfer;
 use port::types::Port;
 use port::types::Remote;
+use port::types::SENDING;
 use port::types::Setting;
 use port::types::Small;
 use port::types::Split;
 use port::types::State;
 ghost use mathlib.Core.Path.{_≡_};
 ghost use Prim.Native.Nat.{ℕ};
-ghost use Rattle.port.specs.Parts.{isNone, isClear, keepsHalt, withSplit, isOpenOut, isOpenIn, withPort, withOut, withIn, withRemote, withRen, withStatus, withInHalted, emptyOut, emptyIn, fresh, broken, shut};
+ghost use Rattle.port.specs.Parts.{isNone, isClear, keepsHalt, isOpenOut, isOpenIn, withPort, withOut, withIn, withSplit, withRemote, withRen, withStatus, holding, carrying, withInHalted};
+ghost use Rattle.port.specs.Parts.{noMessage, closedOut, noReply, transferIn, closedIn, askedIn, sendingIn, owedIn, emptyOut, emptyIn, fresh, unbroken, broken, shut};
 
 // The small parts set, the split and the remote/local state kept.
 fn with_small(st: State, small: Small) -> State
@@ -89,6 +97,29 @@ pub fn with_status(p: Port, status: u8) -> Port
     next
 }
 
+// The message and the transfer of Bulk-OUT set, and the reply and the transfer of Bulk-IN.
+pub fn holding(o: BulkOut, message: OutMessage, transfer: OutTransfer) -> BulkOut
+    ensures { λ r. ⌜ r ≡ holding o message transfer ⌝ }
+{
+    BulkOut {
+        message,
+        transfer,
+        halted: o.halted,
+        recent: o.recent,
+    }
+}
+
+pub fn carrying(b: BulkIn, reply: InReply, transfer: InTransfer) -> BulkIn
+    ensures { λ r. ⌜ r ≡ carrying b reply transfer ⌝ }
+{
+    BulkIn {
+        reply,
+        transfer,
+        halted: b.halted,
+        recent: b.recent,
+    }
+}
+
 pub fn with_in_halted(b: BulkIn, halted: u8) -> BulkIn
     ensures { λ r. ⌜ r ≡ withInHalted b halted ⌝ }
 {
@@ -97,33 +128,93 @@ pub fn with_in_halted(b: BulkIn, halted: u8) -> BulkIn
     next
 }
 
+// Nothing is held; no transfer is open on Bulk-OUT; no reply is stored.
+pub fn no_message() -> OutMessage
+    ensures { λ r. ⌜ r ≡ noMessage ⌝ }
+{
+    OutMessage { held: 0, ready: 0 }
+}
+
+pub fn closed_out() -> OutTransfer
+    ensures { λ r. ⌜ r ≡ closedOut ⌝ }
+{
+    OutTransfer {
+        left: 0,
+        got: 0,
+        end: 0,
+    }
+}
+
+pub fn no_reply() -> InReply
+    ensures { λ r. ⌜ r ≡ noReply ⌝ }
+{
+    InReply { at: 0, unsent: 0 }
+}
+
+// An IN transfer in each of its phases.
+fn transfer_in(
+    phase: u8,
+    tag: u8,
+    asked: u16,
+    enabled: u8,
+    term: u8,
+    left: u16,
+    sent: u16,
+) -> InTransfer
+    ensures { λ r. ⌜ r ≡ transferIn phase tag asked enabled term left sent ⌝ }
+{
+    InTransfer {
+        phase,
+        tag,
+        asked,
+        enabled,
+        term,
+        left,
+        sent,
+    }
+}
+
+pub fn closed_in() -> InTransfer
+    ensures { λ r. ⌜ r ≡ closedIn ⌝ }
+{
+    transfer_in(CLOSED, 0, 0, 0, 0, 0, 0)
+}
+
+pub fn asked_in(tag: u8, asked: u16, enabled: u8, term: u8) -> InTransfer
+    ensures { λ r. ⌜ r ≡ askedIn tag asked enabled term ⌝ }
+{
+    transfer_in(ASKED, tag, asked, enabled, term, 0, 0)
+}
+
+pub fn sending_in(tag: u8, left: u16, sent: u16) -> InTransfer
+    ensures { λ r. ⌜ r ≡ sendingIn tag left sent ⌝ }
+{
+    transfer_in(SENDING, tag, 0, 0, 0, left, sent)
+}
+
+pub fn owed_in(tag: u8) -> InTransfer
+    ensures { λ r. ⌜ r ≡ owedIn tag ⌝ }
+{
+    transfer_in(OWED, tag, 0, 0, 0, 0, 0)
+}
+
 pub fn empty_out(halted: u8, recent: u8) -> BulkOut
     ensures { λ r. ⌜ r ≡ emptyOut halted recent ⌝ }
 {
     BulkOut {
-        held: 0,
-        left: 0,
-        got: 0,
-        end: 0,
-        ready: 0,
+        message: no_message(),
+        transfer: closed_out(),
         halted,
         recent,
     }
 }
 
-pub fn empty_in(phase: u8, tag: u8, halted: u8, recent: u8) -> BulkIn
-    ensures { λ r. ⌜ r ≡ emptyIn phase tag halted recent ⌝ }
+pub fn empty_in(transfer: InTransfer, halted: u8, recent: u8) -> BulkIn
+    ensures { λ r. ⌜ r ≡ emptyIn transfer halted recent ⌝ }
 {
     BulkIn {
-        at: 0,
-        unsent: 0,
-        asked: 0,
-        left: 0,
-        sent: 0,
-        enabled: 0,
-        term: 0,
-        phase,
-        tag,
+        reply: no_reply(),
+        transfer,
         halted,
         recent,
     }
@@ -143,41 +234,49 @@ pub fn fresh(setting: Setting, configured: u8) -> State
         small: Small {
             port,
             bulkout: empty_out(0, 0),
-            bulkin: empty_in(CLOSED, 0, 0, 0),
+            bulkin: empty_in(closed_in(), 0, 0),
         },
         split: Split::None,
         remote: Remote::Locs,
     }
 }
 
+// What a break leaves of a message: all of one that is ready.
+pub fn unbroken(m: OutMessage) -> OutMessage
+    ensures { λ r. ⌜ r ≡ unbroken m ⌝ }
+{
+    if m.ready == 1 {
+        return m;
+    }
+    no_message()
+}
+
 // A halt of Bulk-OUT drops what is open and unfinished; so does the end of one.
 pub fn broken(halted: u8, o: BulkOut) -> BulkOut
     ensures { λ r. ⌜ r ≡ broken halted o ⌝ }
 {
-    let mut next = empty_out(halted, o.recent);
-    next.ready = o.ready;
-    if o.ready == 1 {
-        next.held = o.held;
-        return next;
+    let message = o.message;
+    BulkOut {
+        message: unbroken(message),
+        transfer: closed_out(),
+        halted,
+        recent: o.recent,
     }
-    next
 }
 
 // The IN transfer closes; what is unsent stays.
 pub fn shut(b: BulkIn) -> BulkIn
     ensures { λ r. ⌜ r ≡ shut b ⌝ }
 {
-    let mut next = empty_in(CLOSED, 0, b.halted, b.recent);
-    next.at = b.at;
-    next.unsent = b.unsent;
-    next
+    let reply = b.reply;
+    carrying(b, reply, closed_in())
 }
 
 // A transfer is open on Bulk-OUT, and on Bulk-IN.
 pub fn is_open_out(o: BulkOut) -> bool
     ensures { λ r. ⌜ r ≡ isOpenOut o ⌝ }
 {
-    if o.left == 0 {
+    if o.transfer.left == 0 {
         return false;
     }
     true
@@ -186,7 +285,7 @@ pub fn is_open_out(o: BulkOut) -> bool
 pub fn is_open_in(b: BulkIn) -> bool
     ensures { λ r. ⌜ r ≡ isOpenIn b ⌝ }
 {
-    if b.phase == CLOSED {
+    if b.transfer.phase == CLOSED {
         return false;
     }
     true

@@ -1,53 +1,66 @@
 -- Calls one after the other on the same bytes: each sees just the unit that the definitions gave, so that a run from power-on is the definitions' run.
 -- Assumes nothing.
 use Prim.Native.Nat.{ℕ}
-use mathlib.Core.Path.{_≡_, refl, sym, ap, _∙_}
+use mathlib.Core.Path.{_≡_, refl, sym, ap, _∙_, subst}
 use mathlib.Core.Bool.{true}
 use mathlib.Core.List.{List, [], _∷_, map}
 use mathlib.Core.Logic.{⊎-elim}
-use lib.ListN.{length}
-use Rattle.port.specs.In.{Answer as Said}
+use native.Mathlib.Omega.{arith}
+use Rattle.rules.specs.Answers.{DONE, Leaves as Left-as, unchanged, leaves}
+use Rattle.port.specs.Answer.{Answer as Said}
 use Rattle.port.specs.Device.{Device, Result, isSound, powerOn}
-use Rattle.port.specs.Step.{Call, setup-packet, out-packet, in-poll, take-into, offer-reply, set-status, front-panel, bus-reset, bus-suspend, step, run, after}
-use Rattle.port.specs.Laws.{Stored}
+use Rattle.port.specs.Step.{Call, step, run, after}
+use Rattle.port.specs.Laws.{Stored, LeftAs}
 use Rattle.port.specs.declared.types.Setting.{Setting}
 use Rattle.port.proofs.KeepsOut.{cases}
-use Rattle.port.proofs.Calls.{power-on-sound, power-on-stored, unsound-refused, keeps-sound, keeps-stored}
+use Rattle.port.proofs.Calls.{power-on-sound, power-on-stored, unsound-refused, keeps-sound, keeps-stored, leaves-table}
 use Rattle.flat.specs.Flat.{isUnit, opened, shut}
-use Rattle.flat.proofs.Places.{message-long, reply-long}
-use Rattle.flat.proofs.Again.{Bytes, opened-shut, shut-opened}
+use Rattle.flat.proofs.Again.{opened-shut}
+use Rattle.flat.proofs.Parted.{opened-stored}
 use Rattle.flat.proofs.Narrow.{fits, unit-again}
-use Rattle.flatcalls.specs.Promise.{Left, shutOf, answerOf}
-use Rattle.tewennos.specs.Run.{callBytes, runBytes, afterBytes, promised, Made, none, then}
+use Rattle.flatcalls.specs.Promise.{Lent, Left, shutOf, keptOf, onBytes, answerOf}
 use Rattle.flatcalls.specs.declared.types.Answer.{Answer}
-use Rattle.flatcalls.proofs.Called.{on-unit}
+use Rattle.flatcalls.proofs.Called.{on-unit, on-none, again}
+use Rattle.tewennos.specs.Run.{runBytes, afterBytes, Made, none, then}
 
--- ** one call on bytes that are a unit's
+-- ** one call on any bytes
 
-module _ (u : List ℕ) (long : length u ≡ 2084) (small : Bytes u) (is : isUnit u ≡ true) where
-  -- a call that leaves the unit writes no byte of it
-  pub refused-unchanged : (q : Result) → q .unit ≡ opened u → shut (q .unit) ≡ u
-  refused-unchanged q e = ap shut e ∙ shut-opened u long small is
+module _ (u : List ℕ) (lent : Lent u) (c : Call) where
+  abbrev told : Left → ℕ
+  told q = q .answer .verdict .number
 
-  opened-stored : Stored (opened u)
-  unfolding opened
-  opened-stored = record { message = message-long u long; reply = reply-long u long }
+  unchanged-by : isUnit u ≡ true → (told (shutOf (step (opened u) c)) ≡ DONE → ⊥) → leaves (told (shutOf (step (opened u) c))) ≡ unchanged → shut (step (opened u) c .unit) ≡ u
+  unchanged-by is n e =
+      let left = subst (λ (x : Left-as). LeftAs x (opened u) (step (opened u) c)) e (leaves-table (opened u) c n) in
+      ap (λ (q : Result). shut (q .unit)) left ∙ again u lent is
 
-  -- what it leaves is a unit's bytes, and the next call sees the unit that the definitions gave
-  pub next-unit : (c : Call) → (isUnit (shut (step (opened u) c .unit)) ≡ true) × (opened (shut (step (opened u) c .unit)) ≡ step (opened u) c .unit)
-  next-unit c =
-      let q = step (opened u) c in
-      let stored = keeps-stored (opened u) c opened-stored in (
-        unit-again (q .unit) stored,
-        ⊎-elim (λ e. opened-shut (q .unit) (fits (q .unit) stored (keeps-sound (opened u) c e)))
-            (λ e. let k = ap (λ (p : Result). p .unit) (unsound-refused (opened u) c e) in ap opened (refused-unchanged q k) ∙ sym k)
-            (cases (isSound (opened u))),
-      )
+  -- a call that the table answers with the unit unchanged writes no byte of it, whatever bytes it was lent
+  pub refused-unchanged : (told (onBytes u c) ≡ DONE → ⊥) → leaves (told (onBytes u c)) ≡ unchanged → onBytes u c .unit ≡ u
+  refused-unchanged n e =
+      ⊎-elim
+      (λ is. let k = on-unit u c is in ap (λ (q : Left). q .unit) k ∙ unchanged-by is (rw k at n) (rw k at e))
+      (λ is. ap (λ (q : Left). q .unit) (on-none u c is))
+      (cases (isUnit u))
+
+  -- what a call leaves of a unit is a unit's bytes, and the next call sees the unit that the definitions gave
+  module _ (is : isUnit u ≡ true) where
+    stored : Stored (opened u)
+    stored = opened-stored u (omega (arith, lent .long))
+
+    pub next-unit : (isUnit (shut (step (opened u) c .unit)) ≡ true) × (opened (shut (step (opened u) c .unit)) ≡ step (opened u) c .unit)
+    next-unit =
+        let q = step (opened u) c in
+        let kept = keeps-stored (opened u) c stored in (
+          unit-again (q .unit) kept,
+          ⊎-elim (λ e. opened-shut (q .unit) (fits (q .unit) kept (keeps-sound (opened u) c e)))
+              (λ e. let k = ap (λ (p : Result). p .unit) (unsound-refused (opened u) c e) in ap (λ (d : Device). opened (shut d)) k ∙ ap opened (again u lent is) ∙ sym k)
+              (cases (isSound (opened u))),
+        )
 
 -- ** a run from a sound unit
 
-call-again : (d : Device) → Stored d → isSound d ≡ true → (c : Call) → callBytes (shut d) c ≡ shutOf (step d c)
-call-again d stored e c = sym (on-unit (λ x. step x c) (shut d) (unit-again d stored)) ∙ ap (λ (x : Device). shutOf (step x c)) (opened-shut d (fits d stored e))
+call-again : (d : Device) → Stored d → isSound d ≡ true → (c : Call) → onBytes (shut d) c ≡ shutOf (step d c)
+call-again d stored e c = on-unit (shut d) c (unit-again d stored) ∙ ap (λ (x : Device). shutOf (step x c)) (opened-shut d (fits d stored e))
 
 run-again : (d : Device) → Stored d → isSound d ≡ true → (cs : List Call) → runBytes (shut d) cs ≡ run step d cs
 unfolding runBytes run
@@ -65,28 +78,13 @@ after-again d stored e (c ∷ cs) =
 
 -- ** calls that were made
 
-as-promised : (u : List ℕ) (c : Call) → promised u c ≡ callBytes u c
-unfolding step
-as-promised u (setup-packet s room) = refl
-as-promised u (out-packet s) = refl
-as-promised u (in-poll room) = refl
-as-promised u (take-into room) = refl
-as-promised u (offer-reply bytes) = refl
-as-promised u (set-status status) = refl
-as-promised u front-panel = refl
-as-promised u bus-reset = refl
-as-promised u bus-suspend = refl
-
 made-run : (u : List ℕ) (cs : List Call) (rs : List Answer) (u′ : List ℕ) → Made u cs rs u′ → (rs ≡ map answerOf (runBytes u cs)) × (u′ ≡ afterBytes u cs)
 unfolding runBytes afterBytes
 made-run u cs rs u′ (none _) = (refl, refl)
 made-run u cs rs u′ (then _ v _ c later r rest h k) =
-    let e = made-run v later rest u′ k in
-    let p = as-promised u c in
-    let one : r ≡ answerOf (callBytes u c .answer) = (λ i. record { number = h .number i; tells = h .tells i; len = h .len i }) ∙ ap (λ (q : Left). answerOf (q .answer)) p in
-    let unit : v ≡ callBytes u c .unit = h .unit ∙ ap (λ (q : Left). q .unit) p in (
-      λ i. one i ∷ (e .0 ∙ ap (λ (w : List ℕ). map answerOf (runBytes w later)) unit) i,
-      e .1 ∙ ap (λ (w : List ℕ). afterBytes w later) unit,
+    let e = made-run v later rest u′ k in (
+      λ i. h .answer i ∷ (e .0 ∙ ap (λ (w : List ℕ). map answerOf (runBytes w later)) (h .unit)) i,
+      e .1 ∙ ap (λ (w : List ℕ). afterBytes w later) (h .unit),
     )
 
 -- ** a run from power-on

@@ -1,3 +1,3 @@
 -- Laws that belong to no one function.
-pub mod Public
 pub mod Steps
+pub mod Public

@@ -18,11 +18,11 @@ unitOf d = record { message = d .message; reply = d .reply; small = d .state .sm
 
 -- what a call hands back that writes no lent buffer
 abbrev pub doneOf : Result → Done
-doneOf r = record { unit = unitOf (r .unit); number = r .answer .number; tells = r .answer .tells }
+doneOf r = record { unit = unitOf (r .unit); verdict = r .answer .verdict }
 
 -- what a call hands back that writes a lent buffer: its bytes are in the buffer, which held `b` before the call and holds `b′` after it
 abbrev pub toldOf : Result → Told
-toldOf r = record { unit = unitOf (r .unit); number = r .answer .number; tells = r .answer .tells; len = length (r .answer .bytes) }
+toldOf r = record { unit = unitOf (r .unit); verdict = r .answer .verdict; len = length (r .answer .bytes) }
 
 pub record Tells (r : Result) (b b′ : List ℕ) (t : Told) : Type 0 where
   pub told : t ≡ toldOf r
@@ -32,13 +32,11 @@ pub record Tells (r : Result) (b b′ : List ℕ) (t : Told) : Type 0 where
 
 pub record IsStep (q : Result) (r : Done) : Type 0 where
   pub unit : deviceOf (r .unit) ≡ q .unit
-  pub number : r .number ≡ q .answer .number
-  pub tells : r .tells ≡ q .answer .tells
+  pub verdict : r .verdict ≡ q .answer .verdict
   pub bytes : q .answer .bytes ≡ []
 
 pub record IsStepInto (q : Result) (b b′ : List ℕ) (t : Told) : Type 0 where
   pub unit : deviceOf (t .unit) ≡ q .unit
-  pub number : t .number ≡ q .answer .number
-  pub tells : t .tells ≡ q .answer .tells
+  pub verdict : t .verdict ≡ q .answer .verdict
   pub bytes : take (t .len) b′ ≡ q .answer .bytes
   pub rest : drop (t .len) b′ ≡ drop (t .len) b

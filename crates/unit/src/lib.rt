@@ -1,4 +1,5 @@
 // The unit and its calls.
+pub mod apart; // the state of a unit, and a state put back
 pub mod message; // take
 pub mod packet; // a Bulk-OUT packet
 pub mod poll; // a Bulk-IN poll

@@ -1,20 +1,20 @@
 // Power-on and bus reset: a unit with nothing but its setting.
 use crate::types::Done;
 use crate::types::Unit;
-use calls::bus::bus_gate;
 use port::types::FULL_SPEED;
 use port::types::HIGH_SPEED;
 use port::types::Setting;
-use port::types::State;
 use rules::DONE;
-use rules::TELLS_NOTHING;
+use rules::UNSOUND;
 use rules::WRONG_SIZE;
+use rules::verdict::only;
 use soundness::sound::is_size;
+use soundness::sound::sound;
 use state::parts::fresh;
 ghost use mathlib.Core.Path.{_≡_};
 ghost use Prim.Native.Nat.{ℕ};
 ghost use Rattle.port.specs.Device.{made, powerOn};
-ghost use Rattle.port.specs.Calls.{busReset};
+ghost use Rattle.port.specs.Step.{bus-reset, step};
 ghost use Rattle.unit.specs.Promise.{deviceOf, unitOf, doneOf};
 
 impl Unit {
@@ -30,8 +30,7 @@ impl Unit {
         if is_size(setting.packet) {
             return Done {
                 unit: Unit::made(setting, 0),
-                number: DONE,
-                tells: TELLS_NOTHING,
+                verdict: only(DONE),
             };
         }
         let least = Setting {
@@ -39,48 +38,29 @@ impl Unit {
         };
         Done {
             unit: Unit::made(least, 0),
-            number: WRONG_SIZE,
-            tells: TELLS_NOTHING,
+            verdict: only(WRONG_SIZE),
         }
     }
 
     // The bus is reset: what SET_CONFIGURATION 0 does.
     pub fn bus_reset(self) -> Done
-        ensures { λ r. ⌜ r ≡ doneOf (busReset (deviceOf self)) ⌝ }
+        ensures { λ r. ⌜ r ≡ doneOf (step (deviceOf self) bus-reset) ⌝ }
     {
-        let message = self.message;
-        let reply = self.reply;
-        let small = self.small;
-        let split = self.split;
-        let remote = self.remote;
-        let st = State {
-            small,
-            split,
-            remote,
-        };
-        let number = bus_gate(st);
-        if number != 0 {
+        let st = self.state();
+        if sound(st) {
             return Done {
-                unit: Unit {
-                    message,
-                    reply,
-                    small,
-                    split,
-                    remote,
-                },
-                number,
-                tells: TELLS_NOTHING,
+                unit: Unit::made(st.small.port.setting, 0),
+                verdict: only(DONE),
             };
         }
         Done {
-            unit: Unit::made(small.port.setting, 0),
-            number: DONE,
-            tells: TELLS_NOTHING,
+            unit: self,
+            verdict: only(UNSOUND),
         }
     }
 
     // A unit with nothing stored, open, halted or in progress.
-    fn made(setting: Setting, configured: u8) -> Unit
+    pub fn made(setting: Setting, configured: u8) -> Unit
         ensures { λ r. ⌜ r ≡ unitOf (made setting configured) ⌝ }
     {
         let st = fresh(setting, configured);

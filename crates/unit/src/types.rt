@@ -2,6 +2,7 @@
 use port::types::Remote;
 use port::types::Small;
 use port::types::Split;
+use rules::verdict::Verdict;
 
 // A unit: its two stores, the small parts, and beside them the split in progress and the remote/local state.
 pub struct Unit {
@@ -12,17 +13,15 @@ pub struct Unit {
     pub remote: Remote,
 }
 
-// The unit after a call that writes no lent buffer, with the number and what the answer tells.
+// The unit after a call that writes no lent buffer, with its verdict.
 pub struct Done {
     pub unit: Unit,
-    pub number: u8,
-    pub tells: u8,
+    pub verdict: Verdict,
 }
 
 // The unit after a call that writes a lent buffer: `len` bytes of it, from its start on.
 pub struct Told {
     pub unit: Unit,
-    pub number: u8,
-    pub tells: u8,
+    pub verdict: Verdict,
     pub len: usize,
 }

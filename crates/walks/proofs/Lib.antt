@@ -1,5 +1,4 @@
--- What both walks share: the locals, the fields of the unit, and the statements that copy them out and store them back.
-pub mod Eleven
+-- The walks of the two calls in place, as far as they know nothing of the call.
+pub mod Borrow
 pub mod Fields
-pub mod Locals
-pub mod Nine
+pub mod Walks

@@ -1,51 +1,15 @@
-use native.Mathlib.Omega.{arith}
-use Rattle.port.specs.declared.types.State.{State}
-use Rattle.port.specs.Given.{givenOf}
-use Rattle.flat.specs.Flat.{stateIn, stateBytes, opened}
-use Rattle.port.specs.Calls.{suspend, suspended}
-use Rattle.flatcalls.proofs.Called.{settles, none-leaves}
-use mathlib.Core.Path.{_≡_, refl, sym, ap, _∙_}
+use Rattle.flatbus.proofs.Ways.{bus-refused, suspend-done}
+use Rattle.port.specs.Step.{quiet, bus-suspend}
 use borrow.Author.Needs.{needs}
+use mathlib.Core.List.{[]}
 use Rattle.flatbus.proofs.suspend.Statement.{statement}
 use Rattle.flatbus.proofs.suspend.Tie as tie
-use Rattle.flatbus.proofs.suspend.Reads as reads
-use Rattle.flatbus.proofs.suspend.Lts as lts
-use Rattle.calls.proofs.bus.suspended.Reads as suspended-reads
-use Rattle.flat.proofs.unit.is_unit.Reads as is-unit-reads
-use Rattle.flat.proofs.unit.state_of.Reads as state-of-reads
-use Rattle.flatcalls.proofs.after.no_unit.Reads as no-unit-reads
-use Rattle.flatcalls.proofs.after.settled.Reads as settled-reads
-
-is-unit-requires : tie.Need-is-unit-requires
-is-unit-requires c κs = search needs
-
-state-of-requires : tie.Need-state-of-requires
-state-of-requires c κs = search needs
-
-suspended-requires : tie.Need-suspended-requires
-suspended-requires c κs = search needs
-
-settled-requires : tie.Need-settled-requires
-settled-requires c κs = search needs
-
-returns : tie.Need-returns
-unfolding suspend opened
-returns c = settles (c .before .before .before .before .before .before .before .before .before .before .args .u .now) (omega arith) (sym (c .before .before .before .before .before .before .before .is-unit .ensures) ∙ c .before .before .before .before .before .before .if1 .taken) suspend (suspended (stateIn (stateBytes (c .before .before .before .before .before .before .before .before .before .before .args .u .now)))) refl _ _ _ (c .settled .ensures .0) (c .settled .ensures .1) (c .before .before .suspended .ensures ∙ ap (λ (x : State). givenOf (suspended x)) (c .before .before .before .state-of .ensures))
-
-no-unit-requires : tie.Need-no-unit-requires
-no-unit-requires c κs = search needs
-
-returns-2 : tie.Need-returns-2
-returns-2 c = none-leaves _ (c .before .before .before .before .before .args .u .now) (sym (c .before .before .is-unit .ensures) ∙ c .before .if1 .left) _ (c .no-unit .ensures)
 
 pub suspend-spec : {M : Type 1} → statement M
 suspend-spec =
     tie.close
     (tie.spec
-    is-unit-requires
-    state-of-requires
-    suspended-requires
-    settled-requires
-    returns
-    no-unit-requires
-    returns-2)
+    (λ c κs. search needs) (λ c κs. search needs)
+    (λ c. bus-refused (c .before .before .before .before .args .u .now) _ (c .before .before .bus-number .ensures) [] _ (quiet bus-suspend) (c .before .if1 .taken) (c .numbered .ensures))
+    (λ c κs. search needs) (λ c κs. search needs) (λ c κs. search needs) (λ c κs. search needs) (λ c κs. search needs)
+    (λ c. suspend-done (c .before .before .before .before .before .before .before .before .before .before .before .before .args .u .now) _ (c .before .before .before .before .before .before .before .before .before .before .bus-number .ensures) _ _ (c .before .before .before .before .before .before .before .before .before .if1 .left) _ (rw (c .before .before .before .before .with-ren .ensures, c .before .before .before .before .before .before .port-of .ensures) at (c .before .before .before .put-port .ensures)) (c .before .put-remote .ensures) (c .numbered2 .ensures)))

@@ -1,49 +1,18 @@
-use Rattle.port.specs.declared.types.State.{State}
-use Rattle.port.specs.Calls.{offerPlan}
-use Rattle.flatcalls.proofs.Called.{stores, none-leaves}
-use lib.ListN.{length}
-use mathlib.Core.Path.{_≡_, refl, sym, ap, _∙_}
-use native.Mathlib.Omega.{arith}
+use Rattle.flatthermostat.proofs.Ways.{offer-kept, offer-room, offer-given}
 use borrow.Author.Needs.{needs}
+use mathlib.Core.List.{[]}
+use mathlib.Core.Path.{_≡_, refl}
+use native.Mathlib.Omega.{arith}
 use Rattle.flatthermostat.proofs.offer.Statement.{statement}
 use Rattle.flatthermostat.proofs.offer.Tie as tie
-use Rattle.flatthermostat.proofs.offer.Reads as reads
-use Rattle.flatthermostat.proofs.offer.Lts as lts
-use Rattle.messages.proofs.offer.offer_into.Reads as offer-into-reads
-use Rattle.flat.proofs.unit.is_unit.Reads as is-unit-reads
-use Rattle.flat.proofs.unit.state_of.Reads as state-of-reads
-use Rattle.flatcalls.proofs.after.carried.Reads as carried-reads
-use Rattle.flatcalls.proofs.after.no_unit.Reads as no-unit-reads
-
-is-unit-requires : tie.Need-is-unit-requires
-is-unit-requires c κs = search needs
-
-state-of-requires : tie.Need-state-of-requires
-state-of-requires c κs = search needs
-
-offer-into-requires : tie.Need-offer-into-requires
-offer-into-requires c κs = search needs
-
-carried-requires : tie.Need-carried-requires
-carried-requires c κs = search needs
-
-returns : tie.Need-returns
-returns c = let e = c .before .before .offer-into .ensures in stores (c .before .before .before .before .before .before .before .before .before .before .before .before .args .u .now) (omega arith) (sym (c .before .before .before .before .before .before .before .before .is-unit .ensures) ∙ c .before .before .before .before .before .before .before .if1 .taken) _ _ _ _ (c .carried .ensures .0) (c .carried .ensures .1) (c .before .before .before .before .before .before .before .before .before .before .before .before .args .bytes .now) (e .0 ∙ ap (λ (x : State). offerPlan x (length (c .before .before .before .before .before .before .before .before .before .before .before .before .args .bytes .now))) (c .before .before .before .before .state-of .ensures)) (e .1) (e .2) (e .3)
-
-no-unit-requires : tie.Need-no-unit-requires
-no-unit-requires c κs = search needs
-
-returns-2 : tie.Need-returns-2
-returns-2 c = none-leaves _ (c .before .before .before .before .before .before .args .u .now) (sym (c .before .before .is-unit .ensures) ∙ c .before .if1 .left) _ (c .no-unit .ensures)
 
 pub offer-spec : {M : Type 1} → statement M
 offer-spec =
     tie.close
     (tie.spec
-    is-unit-requires
-    state-of-requires
-    offer-into-requires
-    carried-requires
-    returns
-    no-unit-requires
-    returns-2)
+    (λ c κs. search needs) (λ c κs. search needs)
+    (λ c. let a = c .before .before .before .before .before .args in offer-kept (a .u .now) _ [] _ (a .bytes .now) (c .before .before .offer-number .ensures) (c .before .if1 .taken) (c .numbered .ensures))
+    (λ c κs. let a = c .before .before .before .before .before .args in let is = c .before .before .offer-number .ensures in let l = is .lent .long in let r = offer-room (a .u .now) _ [] (record { verdict = record { number = 0; tells = 0 }; len = 0 }) (a .bytes .now) is (c .before .if1 .left) in (omega arith, omega arith))
+    (λ c. let a = c .before .before .before .before .before .before .before .args in let r = offer-room (a .u .now) _ [] (record { verdict = record { number = 0; tells = 0 }; len = 0 }) (a .bytes .now) (c .before .before .before .before .offer-number .ensures) (c .before .before .before .if1 .left) in search needs)
+    (λ c κs. search needs) (λ c κs. search needs)
+    (λ c. let a = c .before .before .before .before .before .before .before .before .before .args in offer-given (a .u .now) _ _ _ (a .bytes .now) (c .before .before .before .before .before .before .offer-number .ensures) (c .before .before .before .before .before .if1 .left) _ (c .before .before .before .copy-in .ensures) (c .before .put-in-reply .ensures) (c .numbered2 .ensures)))

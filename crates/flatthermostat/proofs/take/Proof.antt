@@ -1,58 +1,18 @@
-use Rattle.port.specs.In.{Said}
-use Rattle.port.specs.declared.types.State.{State}
-use Rattle.port.specs.Device.{heldIn}
-use Rattle.port.specs.Given.{Hands}
-use Rattle.flat.specs.Flat.{stateIn, stateBytes, opened, messageBytes}
-use Rattle.port.specs.Calls.{take-message, taking}
-use Rattle.flatcalls.proofs.Called.{hands, none-fills}
-use lib.ListN.{length}
-use mathlib.Core.Path.{_≡_, refl, sym, ap, subst, _∙_}
-use native.Mathlib.Omega.{arith}
+use Rattle.flatthermostat.proofs.Ways.{take-kept, take-room, take-given}
 use borrow.Author.Needs.{needs}
+use mathlib.Core.List.{[]}
+use mathlib.Core.Path.{_≡_, refl}
+use native.Mathlib.Omega.{arith}
 use Rattle.flatthermostat.proofs.take.Statement.{statement}
 use Rattle.flatthermostat.proofs.take.Tie as tie
-use Rattle.flatthermostat.proofs.take.Reads as reads
-use Rattle.flatthermostat.proofs.take.Lts as lts
-use Rattle.flat.proofs.unit.is_unit.Reads as is-unit-reads
-use Rattle.flat.proofs.unit.state_of.Reads as state-of-reads
-use Rattle.flatcalls.proofs.after.no_unit.Reads as no-unit-reads
-use Rattle.flatcalls.proofs.after.settled.Reads as settled-reads
-use Rattle.flatthermostat.proofs.take_of.Reads as take-of-reads
-
-is-unit-requires : tie.Need-is-unit-requires
-is-unit-requires c κs = search needs
-
-state-of-requires : tie.Need-state-of-requires
-state-of-requires c κs = search needs
-
-take-of-requires : tie.Need-take-of-requires
-take-of-requires c κs = search needs
-
-settled-requires : tie.Need-settled-requires
-settled-requires c κs = search needs
-
-same-length : tie.Need-same-length
-same-length c = search needs
-
-returns : tie.Need-returns
-unfolding take-message opened
-returns c = let s : State → Said = (λ (x : State). taking x (heldIn (x .small .bulkout) (messageBytes (c .before .before .before .before .before .before .before .before .before .before .before .before .before .before .before .before .args .u .now))) (length (c .before .before .before .before .before .before .before .before .before .before .before .before .before .before .before .before .args .b .now))) in let k = c .before .before .before .before .take-of in hands (c .before .before .before .before .before .before .before .before .before .before .before .before .before .before .before .before .args .u .now) (omega arith) (sym (c .before .before .before .before .before .before .before .before .before .before .before .before .is-unit .ensures) ∙ c .before .before .before .before .before .before .before .before .before .before .before .if1 .taken) (λ d. take-message d (length (c .before .before .before .before .before .before .before .before .before .before .before .before .before .before .before .before .args .b .now))) (s (stateIn (stateBytes (c .before .before .before .before .before .before .before .before .before .before .before .before .before .before .before .before .args .u .now)))) refl _ _ _ (c .settled .ensures .0) (c .settled .ensures .1) (c .before .before .before .before .before .before .before .before .before .before .before .before .before .before .before .before .args .b .now) _ (subst (λ (x : State). Hands (s x) (k .result) (c .before .before .before .before .before .before .before .before .before .before .before .before .before .before .before .before .args .b .now) (k .last .1 .1 .0)) (c .before .before .before .before .before .before .before .before .state-of .ensures) (k .ensures))
-
-no-unit-requires : tie.Need-no-unit-requires
-no-unit-requires c κs = search needs
-
-returns-2 : tie.Need-returns-2
-returns-2 c = none-fills _ (c .before .before .before .before .before .before .args .u .now) (sym (c .before .before .is-unit .ensures) ∙ c .before .if1 .left) _ (c .no-unit .ensures) _
 
 pub take-spec : {M : Type 1} → statement M
 take-spec =
     tie.close
     (tie.spec
-    is-unit-requires
-    state-of-requires
-    take-of-requires
-    settled-requires
-    same-length
-    returns
-    no-unit-requires
-    returns-2)
+    (λ c κs. search needs) (λ c κs. search needs)
+    (λ c. let a = c .before .before .before .before .before .args in take-kept (a .u .now) _ [] _ (a .b .now) [] (c .before .before .take-number .ensures) (c .before .if1 .taken) (c .numbered .ensures))
+    (λ c κs. search needs) (λ c κs. search needs)
+    (λ c κs. let a = c .before .before .before .before .before .before .before .before .before .before .before .args in let is = c .before .before .before .before .before .before .before .before .take-number .ensures in let l = is .lent .long in let r = take-room (a .u .now) _ [] (record { verdict = record { number = 0; tells = 0 }; len = 0 }) (a .b .now) [] is (c .before .before .before .before .before .before .before .if1 .left) in let w = rw (c .before .before .before .before .out-of .ensures) at (c .before .before .before .widened .ensures .0) in (omega arith, omega arith))
+    (λ c κs. search needs) (λ c κs. search needs) (λ c κs. search needs) (λ c. search needs)
+    (λ c. let a = c .before .before .before .before .before .before .before .before .before .before .before .before .before .before .before .before .before .before .args in let w = rw (c .before .before .before .before .before .before .before .before .before .before .before .out-of .ensures) at (c .before .before .before .before .before .before .before .before .before .before .widened .ensures .0) in take-given (a .u .now) _ _ _ (a .b .now) _ (c .before .before .before .before .before .before .before .before .before .before .before .before .before .before .before .take-number .ensures) (c .before .before .before .before .before .before .before .before .before .before .before .before .before .before .if1 .left) (rw w at (c .before .before .before .before .before .before .copy-in .ensures)) (rw (c .before .before .no-message .ensures) at (c .before .put-out-message .ensures)) (rw (c .only .ensures, w) refl)))

@@ -1,40 +1,15 @@
-use mathlib.Core.Path.{_≡_, refl, sym, ap, _∙_}
 use Rattle.port.specs.Given.{givenOf}
-use Rattle.calls.proofs.CallLaws.{suspend-refused, suspend-done}
+use Rattle.rules.proofs.Choice.{at-true, at-false}
 use borrow.Author.Needs.{needs}
+use mathlib.Core.Path.{_≡_, sym, ap, _∙_, refl}
 use Rattle.calls.proofs.bus.suspended.Statement.{statement}
 use Rattle.calls.proofs.bus.suspended.Tie as tie
-use Rattle.calls.proofs.bus.suspended.Reads as reads
-use Rattle.calls.proofs.bus.suspended.Lts as lts
-use Rattle.remote.proofs.remote.local_now.Reads as local-now-reads
-use Rattle.calls.proofs.bus.bus_gate.Reads as bus-gate-reads
-use Rattle.state.proofs.given.given.Reads as given-reads
-
-bus-gate-requires : tie.Need-bus-gate-requires
-bus-gate-requires c κs = search needs
-
-given-requires : tie.Need-given-requires
-given-requires c κs = search needs
-
-returns : tie.Need-returns
-returns c = rw (c .given .ensures) (ap givenOf (suspend-refused _ _ (c .before .before .bus-gate .ensures) (c .before .if1 .taken)))
-
-local-now-requires : tie.Need-local-now-requires
-local-now-requires c κs = search needs
-
-given-requires-2 : tie.Need-given-requires-2
-given-requires-2 c κs = search needs
-
-returns-2 : tie.Need-returns-2
-returns-2 c = rw (c .given2 .ensures, c .before .local-now .ensures) (ap givenOf (suspend-done _ _ (c .before .before .before .bus-gate .ensures) (c .before .before .if1 .left)))
 
 pub suspended-spec : {M : Type 1} → statement M
 suspended-spec =
     tie.close
     (tie.spec
-    bus-gate-requires
-    given-requires
-    returns
-    local-now-requires
-    given-requires-2
-    returns-2)
+    (λ c κs. search needs) (λ c κs. search needs) (λ c κs. search needs)
+    (λ c. rw (c .given .ensures, c .before .local-now .ensures) (ap givenOf (sym (at-true _ _ _ (sym (c .before .before .before .sound .ensures) ∙ c .before .before .if1 .taken)))))
+    (λ c κs. search needs)
+    (λ c. rw (c .given2 .ensures) (ap givenOf (sym (at-false _ _ _ (sym (c .before .before .sound .ensures) ∙ c .before .if1 .left))))))

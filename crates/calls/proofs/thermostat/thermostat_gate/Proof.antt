@@ -1,22 +1,6 @@
 use Rattle.rules.proofs.Choice.{picks}
-use borrow.Author.Needs.{needs}
 use Rattle.calls.proofs.thermostat.thermostat_gate.Statement.{statement}
 use Rattle.calls.proofs.thermostat.thermostat_gate.Tie as tie
-use Rattle.calls.proofs.thermostat.thermostat_gate.Reads as reads
-use Rattle.calls.proofs.thermostat.thermostat_gate.Lts as lts
-use Rattle.soundness.proofs.sound.sound.Reads as sound-reads
-
-sound-requires : tie.Need-sound-requires
-sound-requires c κs = search needs
-
-returns : tie.Need-returns
-returns c = search picks depth 20
-
-returns-2 : tie.Need-returns-2
-returns-2 c = search picks depth 20
-
-returns-3 : tie.Need-returns-3
-returns-3 c = search picks depth 20
 
 pub thermostat-gate-spec : {M : Type 1} → statement M
-thermostat-gate-spec = tie.close (tie.spec sound-requires returns returns-2 returns-3)
+thermostat-gate-spec = tie.close (tie.spec (λ c. search picks depth 8) (λ c. search picks depth 8))

@@ -1,13 +1,8 @@
-use mathlib.Core.Path.{refl}
 use Rattle.port.specs.Calls.{released}
+use borrow.Author.Needs.{needs}
 use Rattle.messages.proofs.take.released.Statement.{statement}
 use Rattle.messages.proofs.take.released.Tie as tie
-use Rattle.messages.proofs.take.released.Reads as reads
-use Rattle.messages.proofs.take.released.Lts as lts
-
-returns : tie.Need-returns
-unfolding released
-returns c = refl
 
 pub released-spec : {M : Type 1} → statement M
-released-spec = tie.close (tie.spec returns)
+unfolding released
+released-spec = tie.close (tie.spec (λ c κs. search needs) (λ c κs. search needs) (λ c. rw (c .holding .ensures, c .before .no-message .ensures)))

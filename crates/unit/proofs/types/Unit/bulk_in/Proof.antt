@@ -1,21 +1,22 @@
 use Rattle.port.specs.Calls.{bulkIn}
+use Rattle.port.specs.Device.{unsentOf}
+use Rattle.port.specs.In.{poll}
+use Rattle.port.specs.Step.{in-poll, quiet, quietly, soundly}
 use Rattle.unit.proofs.Steps.{handed}
+use Rattle.unit.specs.Promise.{deviceOf}
 use borrow.Author.Needs.{needs}
+use lib.ListN.{length}
+use mathlib.Core.Path.{_≡_, refl}
 use Rattle.unit.proofs.types.Unit.bulk_in.Statement.{statement}
 use Rattle.unit.proofs.types.Unit.bulk_in.Tie as tie
-use Rattle.unit.proofs.types.Unit.bulk_in.Reads as reads
-use Rattle.unit.proofs.types.Unit.bulk_in.Lts as lts
-use Rattle.polls.proofs.poll.poll_step.Reads as poll-step-reads
-
-poll-step-requires : tie.Need-poll-step-requires
-poll-step-requires c κs = search needs
-
-same-length : tie.Need-same-length
-same-length c = search needs
-
-returns : tie.Need-returns
-unfolding bulkIn
-returns c = let a = c .before .before .before .before .before .before .before .before .before .before .before .before .args in let k = c .before .before .before .before .before .before .poll-step in handed (a .t1) _ (k .result) (a .b .now) _ (k .ensures)
 
 pub bulk-in-spec : {M : Type 1} → statement M
-bulk-in-spec = tie.close (tie.spec poll-step-requires same-length returns)
+unfolding soundly quietly bulkIn
+bulk-in-spec =
+    tie.close
+    (tie.spec
+    (λ c κs. search needs) (λ c κs. search needs) (λ c κs. search needs) (λ c. search needs)
+    (λ c. let a = c .before .before .before .before .before .before .before .before .before .args in
+    let d = deviceOf (a .t1) in
+    let n = length (a .b .now) in
+    rw (c .told .ensures) (handed d (quiet (in-poll n)) (poll (d .state) (unsentOf d) n) refl _ _ _ (rw (c .before .before .before .before .before .before .before .state .ensures) at (c .before .before .before .poll-step .ensures)))))

@@ -1,16 +1,12 @@
 use Rattle.unit.proofs.Steps.{stored}
 use borrow.Author.Needs.{needs}
+use mathlib.Core.Path.{_≡_, _∙_}
 use Rattle.unit.proofs.types.Unit.offer.Statement.{statement}
 use Rattle.unit.proofs.types.Unit.offer.Tie as tie
-use Rattle.unit.proofs.types.Unit.offer.Reads as reads
-use Rattle.unit.proofs.types.Unit.offer.Lts as lts
-use Rattle.messages.proofs.offer.offer_step.Reads as offer-step-reads
-
-offer-step-requires : tie.Need-offer-step-requires
-offer-step-requires c κs = search needs
-
-returns : tie.Need-returns
-returns c = let a = c .before .before .before .before .before .before .before .before .args in let k = c .before .before .before .before .offer-step .ensures in stored (a .t1) (a .bytes .now) _ _ (k .0) (k .1)
 
 pub offer-spec : {M : Type 1} → statement M
-offer-spec = tie.close (tie.spec offer-step-requires returns)
+offer-spec =
+    tie.close
+    (tie.spec
+    (λ c κs. search needs) (λ c κs. search needs) (λ c κs. search needs)
+    (λ c. let a = c .before .before .before .before .before .before .before .args in let e = rw (c .before .before .before .before .before .state .ensures) at (c .before .before .before .offer-step .ensures) in c .done .ensures ∙ stored (a .t1) (a .bytes .now) _ _ (e .0) (e .1)))

@@ -1,19 +1,16 @@
-use Rattle.port.specs.Calls.{statusSet, setStatus}
-use Rattle.unit.specs.Promise.{deviceOf}
+use Rattle.port.specs.Calls.{setStatus, statusSet}
+use Rattle.port.specs.Step.{set-status, quiet, quietly, soundly}
 use Rattle.unit.proofs.Steps.{moved}
+use Rattle.unit.specs.Promise.{deviceOf}
 use borrow.Author.Needs.{needs}
+use mathlib.Core.Path.{_≡_, refl, _∙_}
 use Rattle.unit.proofs.types.Unit.set_status.Statement.{statement}
 use Rattle.unit.proofs.types.Unit.set_status.Tie as tie
-use Rattle.unit.proofs.types.Unit.set_status.Reads as reads
-use Rattle.unit.proofs.types.Unit.set_status.Lts as lts
-use Rattle.calls.proofs.thermostat.status_set.Reads as status-set-reads
-
-status-set-requires : tie.Need-status-set-requires
-status-set-requires c κs = search needs
-
-returns : tie.Need-returns
-unfolding setStatus
-returns c = moved (c .before .before .before .before .before .before .args .self) (statusSet (deviceOf (c .before .before .before .before .before .before .args .self) .state) (c .before .before .before .before .before .before .args .status)) (c .before .before .status-set .result) (c .before .before .status-set .ensures)
 
 pub set-status-spec : {M : Type 1} → statement M
-set-status-spec = tie.close (tie.spec status-set-requires returns)
+unfolding soundly quietly setStatus
+set-status-spec =
+    tie.close
+    (tie.spec
+    (λ c κs. search needs) (λ c κs. search needs) (λ c κs. search needs)
+    (λ c. let a = c .before .before .before .before .before .args in c .done .ensures ∙ moved (deviceOf (a .self)) (quiet (set-status (a .status))) (statusSet (deviceOf (a .self) .state) (a .status)) refl _ (rw (c .before .before .before .before .state .ensures) at (c .before .before .before .status-set .ensures))))

@@ -1,25 +1,18 @@
-use Rattle.unit.proofs.Steps.{setup-wiped, setup-kept}
+use Rattle.unit.proofs.Steps.{setup-denied, setup-renewed, setup-answered, setup-roomy}
+use Rattle.unit.specs.Promise.{deviceOf}
 use borrow.Author.Needs.{needs}
 use Rattle.unit.proofs.types.Unit.setup.Statement.{statement}
 use Rattle.unit.proofs.types.Unit.setup.Tie as tie
-use Rattle.unit.proofs.types.Unit.setup.Reads as reads
-use Rattle.unit.proofs.types.Unit.setup.Lts as lts
-use Rattle.control.proofs.serve.setup_step.Reads as setup-step-reads
-
-setup-step-requires : tie.Need-setup-step-requires
-setup-step-requires c κs = search needs
-
-same-length : tie.Need-same-length
-same-length c = search needs
-
-returns : tie.Need-returns
-returns c = let a = c .before .before .before .before .before .before .before .before .before .before .before .before .args in let k = c .before .before .before .before .before .setup-step in setup-wiped (a .self) (a .s .now) (a .b .now) _ (k .result) (k .ensures) (c .if1 .taken)
-
-same-length-2 : tie.Need-same-length-2
-same-length-2 c = search needs
-
-returns-2 : tie.Need-returns-2
-returns-2 c = let a = c .before .before .before .before .before .before .before .before .before .before .before .before .args in let k = c .before .before .before .before .before .setup-step in setup-kept (a .self) (a .s .now) (a .b .now) _ (k .result) (k .ensures) (c .if1 .left)
 
 pub setup-spec : {M : Type 1} → statement M
-setup-spec = tie.close (tie.spec setup-step-requires same-length returns same-length-2 returns-2)
+setup-spec =
+    tie.close
+    (tie.spec
+    (λ c κs. search needs) (λ c κs. search needs) (λ c. search needs) (λ c κs. search needs) (λ c. search needs) (λ c κs. search needs)
+    (λ c κs. search needs) (λ c. search needs)
+    (λ c κs. let a = c .before .before .before .before .before .before .before .before .args in setup-roomy (deviceOf (a .self)) (a .s .now) (a .b .now) _ (rw (c .before .before .before .before .before .state .ensures) at (c .before .before .before .before .decided .ensures)) _ (c .before .before .x3 .given .1))
+    (λ c κs. search needs)
+    (λ c. let a = c .before .before .before .before .before .before .before .before .args in rw (c .only .ensures) (setup-denied (deviceOf (a .self)) (a .s .now) (a .b .now) _ (rw (c .before .before .before .before .before .state .ensures) at (c .before .before .before .before .decided .ensures)) _ (c .before .before .x .given .1)))
+    (λ c. let a = c .before .before .before .before .before .before .before .before .before .args in rw (c .only2 .ensures, c .before .made .ensures, c .before .before .before .before .before .before .state .ensures) (setup-renewed (deviceOf (a .self)) (a .s .now) (a .b .now) _ (rw (c .before .before .before .before .before .before .state .ensures) at (c .before .before .before .before .before .decided .ensures)) _ (c .before .before .before .x2 .given .1)))
+    (λ c. search needs)
+    (λ c. let a = c .before .before .before .before .before .before .before .before .before .before .before .before .args in rw (c .told .ensures) (setup-answered (deviceOf (a .self)) (a .s .now) (a .b .now) _ (rw (c .before .before .before .before .before .before .before .before .before .state .ensures) at (c .before .before .before .before .before .before .before .before .decided .ensures)) _ (c .before .before .before .before .before .before .x3 .given .1) _ _ (rw (c .before .before .before .before .before .before .before .before .before .state .ensures) at (c .before .before .before .row-step .ensures)))))

@@ -1,19 +1,19 @@
-use Rattle.port.specs.Calls.{suspended, suspend}
-use Rattle.unit.specs.Promise.{deviceOf}
+use Rattle.port.specs.Answer.{says}
+use Rattle.port.specs.Calls.{suspend}
+use Rattle.port.specs.Remote.{localNow}
+use Rattle.port.specs.Step.{bus-suspend, quiet, quietly, soundly}
 use Rattle.unit.proofs.Steps.{moved}
+use Rattle.unit.specs.Promise.{deviceOf}
 use borrow.Author.Needs.{needs}
+use mathlib.Core.List.{[]}
+use mathlib.Core.Path.{_≡_, refl, _∙_}
 use Rattle.unit.proofs.types.Unit.suspend.Statement.{statement}
 use Rattle.unit.proofs.types.Unit.suspend.Tie as tie
-use Rattle.unit.proofs.types.Unit.suspend.Reads as reads
-use Rattle.unit.proofs.types.Unit.suspend.Lts as lts
-use Rattle.calls.proofs.bus.suspended.Reads as suspended-reads
-
-suspended-requires : tie.Need-suspended-requires
-suspended-requires c κs = search needs
-
-returns : tie.Need-returns
-unfolding suspend
-returns c = moved (c .before .before .before .before .before .before .args .self) (suspended (deviceOf (c .before .before .before .before .before .before .args .self) .state)) (c .before .before .suspended .result) (c .before .before .suspended .ensures)
 
 pub suspend-spec : {M : Type 1} → statement M
-suspend-spec = tie.close (tie.spec suspended-requires returns)
+unfolding soundly quietly suspend
+suspend-spec =
+    tie.close
+    (tie.spec
+    (λ c κs. search needs) (λ c κs. search needs) (λ c κs. search needs)
+    (λ c. let d = deviceOf (c .before .before .before .before .before .args .self) in c .done .ensures ∙ moved d (quiet bus-suspend) (says (localNow (d .state)) []) refl _ (rw (c .before .before .before .before .state .ensures) at (c .before .before .before .suspended .ensures))))

@@ -1,21 +1,21 @@
-use Rattle.port.specs.Calls.{take-message}
+use Rattle.port.specs.Calls.{taking, take-message}
+use Rattle.port.specs.Device.{heldOf}
+use Rattle.port.specs.Step.{take-into, soundly}
 use Rattle.unit.proofs.Steps.{handed}
+use Rattle.unit.specs.Promise.{deviceOf}
 use borrow.Author.Needs.{needs}
+use lib.ListN.{length}
+use mathlib.Core.Path.{_≡_, refl}
 use Rattle.unit.proofs.types.Unit.take.Statement.{statement}
 use Rattle.unit.proofs.types.Unit.take.Tie as tie
-use Rattle.unit.proofs.types.Unit.take.Reads as reads
-use Rattle.unit.proofs.types.Unit.take.Lts as lts
-use Rattle.messages.proofs.take.take_step.Reads as take-step-reads
-
-take-step-requires : tie.Need-take-step-requires
-take-step-requires c κs = search needs
-
-same-length : tie.Need-same-length
-same-length c = search needs
-
-returns : tie.Need-returns
-unfolding take-message
-returns c = let a = c .before .before .before .before .before .before .before .before .before .before .before .before .args in let k = c .before .before .before .before .before .before .take-step in handed (a .t1) _ (k .result) (a .b .now) _ (k .ensures)
 
 pub take-spec : {M : Type 1} → statement M
-take-spec = tie.close (tie.spec take-step-requires same-length returns)
+unfolding soundly take-message
+take-spec =
+    tie.close
+    (tie.spec
+    (λ c κs. search needs) (λ c κs. search needs) (λ c κs. search needs) (λ c. search needs)
+    (λ c. let a = c .before .before .before .before .before .before .before .before .before .args in
+    let d = deviceOf (a .t1) in
+    let n = length (a .b .now) in
+    rw (c .told .ensures) (handed d (take-into n) (taking (d .state) (heldOf d) n) refl _ _ _ (rw (c .before .before .before .before .before .before .before .state .ensures) at (c .before .before .before .take-step .ensures)))))

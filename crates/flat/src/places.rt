@@ -1,0 +1,41 @@
+// How many bytes a part of a unit has, and where it stands: each behind the one before it. A flag, a tag and the remote/local state have one.
+use port::types::STORE;
+
+pub const PORT: usize = 5;
+
+pub const OUT_MESSAGE: usize = 3;
+
+pub const OUT_TRANSFER: usize = 5;
+
+pub const IN_REPLY: usize = 4;
+
+pub const IN_TRANSFER: usize = 10;
+
+pub const SPLIT: usize = 4;
+
+pub const REPLY_AT: usize = STORE as usize;
+
+pub const PORT_AT: usize = REPLY_AT + STORE as usize;
+
+pub const REMOTE_AT: usize = PORT_AT + PORT;
+
+pub const OUT_MESSAGE_AT: usize = REMOTE_AT + 1;
+
+pub const OUT_HALTED_AT: usize = OUT_MESSAGE_AT + OUT_MESSAGE;
+
+pub const OUT_TRANSFER_AT: usize = OUT_HALTED_AT + 1;
+
+pub const OUT_RECENT_AT: usize = OUT_TRANSFER_AT + OUT_TRANSFER;
+
+pub const IN_REPLY_AT: usize = OUT_RECENT_AT + 1;
+
+pub const IN_TRANSFER_AT: usize = IN_REPLY_AT + IN_REPLY;
+
+pub const IN_HALTED_AT: usize = IN_TRANSFER_AT + IN_TRANSFER;
+
+pub const IN_RECENT_AT: usize = IN_HALTED_AT + 1;
+
+pub const SPLIT_AT: usize = IN_RECENT_AT + 1;
+
+// The bytes of a unit.
+pub const UNIT: usize = SPLIT_AT + SPLIT;

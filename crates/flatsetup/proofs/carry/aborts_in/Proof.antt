@@ -1,0 +1,11 @@
+use Rattle.flatsetup.proofs.Effects.{aborts-in}
+use borrow.Author.Needs.{needs}
+use Rattle.flatsetup.proofs.carry.aborts_in.Statement.{statement}
+use Rattle.flatsetup.proofs.carry.aborts_in.Tie as tie
+
+pub aborts-in-spec : {M : Type 1} → statement M
+aborts-in-spec =
+    tie.close
+    (tie.spec
+    (λ c κs. search needs) (λ c κs. search needs) (λ c κs. search needs) (λ c κs. search needs) (λ c. search needs)
+    (λ c. let o = c .before .before .before .before .before .before .before .before .before .in-of .ensures in aborts-in (c .before .before .before .before .before .before .before .before .before .before .before .before .args .u .now) _ _ (rw (c .before .before .before .before .before .before .before .owing .ensures, o) at (c .before .before .before .before .before .before .put-in .ensures)) (rw o at (c .before .before .put-split .ensures))))

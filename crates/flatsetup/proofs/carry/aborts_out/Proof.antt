@@ -1,0 +1,11 @@
+use Rattle.flatsetup.proofs.Effects.{aborts-out}
+use borrow.Author.Needs.{needs}
+use Rattle.flatsetup.proofs.carry.aborts_out.Statement.{statement}
+use Rattle.flatsetup.proofs.carry.aborts_out.Tie as tie
+
+pub aborts-out-spec : {M : Type 1} → statement M
+aborts-out-spec =
+    tie.close
+    (tie.spec
+    (λ c κs. search needs) (λ c κs. search needs) (λ c κs. search needs) (λ c κs. search needs) (λ c. search needs)
+    (λ c. let o = c .before .before .before .before .before .before .before .before .before .out-of .ensures in aborts-out (c .before .before .before .before .before .before .before .before .before .before .before .before .args .u .now) _ _ (rw (c .before .before .before .before .before .before .before .broken .ensures, o) at (c .before .before .before .before .before .before .put-out .ensures)) (rw o at (c .before .before .put-split .ensures))))

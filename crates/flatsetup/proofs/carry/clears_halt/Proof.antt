@@ -1,0 +1,14 @@
+use Rattle.flatsetup.proofs.Effects.{clears-out, clears-in}
+use borrow.Author.Needs.{needs}
+use Rattle.flatsetup.proofs.carry.clears_halt.Statement.{statement}
+use Rattle.flatsetup.proofs.carry.clears_halt.Tie as tie
+
+pub clears-halt-spec : {M : Type 1} → statement M
+clears-halt-spec =
+    tie.close
+    (tie.spec
+    (λ c. search needs) (λ c κs. search needs) (λ c κs. search needs) (λ c κs. search needs) (λ c κs. search needs) (λ c. search needs)
+    (λ c κs. search needs) (λ c κs. search needs) (λ c κs. search needs) (λ c. search needs)
+    (λ c. rw (c .before .before .before .before .before .before .before .before .before .enum-told .given .1) (clears-out (c .before .before .before .before .before .before .before .before .before .before .before .before .args .u .now) _ (rw (c .before .before .before .clear-feature-out .ensures, c .before .before .before .before .before .split-of .ensures, c .before .before .before .before .before .before .before .out-of .ensures) at (c .before .before .put-out .ensures))))
+    (λ c. search needs)
+    (λ c. rw (c .before .before .before .before .before .before .before .enum-told2 .given .1) (clears-in (c .before .before .before .before .before .before .before .before .before .before .args .u .now) _ (rw (c .before .before .before .clear-feature-in .ensures, c .before .before .before .before .before .in-of .ensures) at (c .before .before .put-in .ensures)))))

@@ -1,0 +1,16 @@
+use Rattle.flatcalls.proofs.Called.{port-is}
+use Rattle.flatsetup.proofs.Effects.{sets-remote}
+use Rattle.port.specs.Rows.{effected}
+use Rattle.port.specs.declared.types.Effect.the-variants.{LocksOut}
+use borrow.Author.Needs.{needs}
+use mathlib.Core.Path.{_≡_, refl, _∙_}
+use Rattle.flatsetup.proofs.carry.locks_out.Statement.{statement}
+use Rattle.flatsetup.proofs.carry.locks_out.Tie as tie
+
+pub locks-out-spec : {M : Type 1} → statement M
+unfolding effected
+locks-out-spec =
+    tie.close
+    (tie.spec
+    (λ c κs. search needs) (λ c κs. search needs) (λ c κs. search needs) (λ c κs. search needs) (λ c. search needs)
+    (λ c. let a = c .before .before .before .before .before .before .before .before .before .before .args in sets-remote (a .u .now) _ LocksOut _ refl (rw (c .before .before .before .locked-out .ensures, c .before .before .before .before .before .before .before .port-of .ensures ∙ port-is (a .u .now), c .before .before .before .before .before .remote-of .ensures) at (c .before .before .put-remote .ensures))))

@@ -1,0 +1,15 @@
+use Rattle.flatcalls.proofs.Called.{port-is}
+use Rattle.flatsetup.proofs.Effects.{ren-on, ren-off}
+use borrow.Author.Needs.{needs}
+use mathlib.Core.Path.{_≡_, _∙_}
+use Rattle.flatsetup.proofs.carry.sets_ren.Statement.{statement}
+use Rattle.flatsetup.proofs.carry.sets_ren.Tie as tie
+
+pub sets-ren-spec : {M : Type 1} → statement M
+sets-ren-spec =
+    tie.close
+    (tie.spec
+    (λ c κs. search needs) (λ c κs. search needs) (λ c κs. search needs) (λ c. search needs)
+    (λ c. let a = c .before .before .before .before .before .before .before .before .before .args in ren-on (a .u .now) _ (a .on) (c .before .before .before .before .before .if1 .taken) (rw (c .before .before .before .with-ren .ensures, c .before .before .before .before .before .before .port-of .ensures ∙ port-is (a .u .now)) at (c .before .before .put-port .ensures)))
+    (λ c κs. search needs) (λ c κs. search needs) (λ c κs. search needs) (λ c. search needs)
+    (λ c. let a = c .before .before .before .before .before .before .before .before .before .before .before .before .before .args in ren-off (a .u .now) _ (a .on) (c .before .before .before .before .before .before .before .before .before .if1 .left) _ (rw (c .before .before .before .before .before .before .before .with-ren2 .ensures, c .before .before .before .before .before .before .before .before .before .before .port-of .ensures ∙ port-is (a .u .now)) at (c .before .before .before .before .before .before .put-port2 .ensures)) (c .before .before .put-remote .ensures)))
