@@ -1,14 +1,13 @@
 -- A setup packet as a whole: no answer is longer than the control buffer has to be, and what passes the gate has the sizes.
 -- Assumes nothing.
 use Prim.Native.Nat.{ℕ, _≤_}
-use mathlib.Core.Path.{_≡_, refl, sym, ap, _∙_}
-use mathlib.Core.Bool.{true}
+use mathlib.Core.Path.{_≡_, refl, ap, _∙_}
 use mathlib.Core.List.{List, [], _∷_}
 use native.Mathlib.Omega.{arith}
 use lib.ListN.{length, drop, replicate, length-append}
 use lib.Seq.{paste, take-at}
 use borrow.Author.Tests.{ltb-false}
-use Rattle.rules.specs.Choice.{_<ᵇ_, _≠ᵇ_, pick, first, decide}
+use Rattle.rules.specs.Choice.{_<ᵇ_, _≠ᵇ_, first}
 use Rattle.rules.proofs.Choice.{neb-eq, none-left, none-right, none-of, pick-all, decide-all, refuses, passes}
 use Rattle.wire.specs.Bytes.{bytes4, into}
 use Rattle.wire.specs.Setup.{SETUP, CONTROL, readSetup}

@@ -1,14 +1,13 @@
 -- What a Bulk-IN poll leaves of a unit in bytes.
 -- Assumes nothing.
-use Prim.Native.Nat.{ℕ, _≤_}
+use Prim.Native.Nat.{ℕ}
 use mathlib.Core.Path.{_≡_, refl, sym, ap, _∙_, subst}
 use mathlib.Core.List.{List}
 use lib.ListN.{length}
 use lib.Seq.{paste}
-use Rattle.rules.specs.Choice.{_=ᵇ_, _<ᵇ_, pick}
-use Rattle.rules.specs.Answers.{DONE, only, done}
+use Rattle.rules.specs.Choice.{_=ᵇ_}
+use Rattle.rules.specs.Answers.{done}
 use Rattle.rules.proofs.Choice.{pick-all, refuses, passes}
-use Rattle.wire.specs.Bytes.{into}
 use Rattle.port.specs.Parts.{STORE, ASKED, isOwed, inOf, packetSize, withIn, carrying, shut}
 use Rattle.port.specs.Answer.{number, refuse}
 use Rattle.port.specs.In.{Packet, fixed, started, gone, send, nextPacket, inRules, poll}
@@ -43,29 +42,30 @@ packet-parts p b unsent =
     pick-all (λ (k : Packet). Parts b (k .side)) (isOwed b) _ (send p b unsent) (λ _. refl)
     (λ _. pick-all (Parts b) _ _ _ (λ _. ap (λ (y : BulkIn). shut y) (gone-parts b (started b unsent) _ (started-parts b unsent))) (λ _. gone-parts b (started b unsent) _ (started-parts b unsent)))
 
+module _ (u b : List ℕ) (n : ℕ) (is : IsNumber u (inRules (stateIn u) (length b)) n) where
+  pub poll-fits : n ≡ 0 → CanPoll (packetSize (stateIn u)) (inOf (stateIn u)) (length b)
+  poll-fits z unowed = poll-can (stateIn u) (length b) n (state-sound u (is-sound is z)) (by-rules is z) z unowed
+
 module _ (u b : List ℕ) (n : ℕ) (is : IsNumber u (inRules (stateIn u) (length b)) n) (b′ u′ : List ℕ) (r : Answer) where
   abbrev call : Call
   call = quiet (in-poll (length b))
 
   pub poll-kept : (n ≡ 0 → ⊥) → r ≡ answerOf (number n) → Fills (onBytes u call) b b u r
   unfolding opened soundly quietly bulkIn poll
-  poll-kept e a = refusal-into u call _ n is (λ _ g. sym (ap (said (opened u)) (refuses (refuse (stateIn u)) (inRules (stateIn u) (length b)) _ n tt g e))) r a b
+  poll-kept e a = refusal-into u call is (λ _ g. sym (ap (said (opened u)) (refuses (refuse (stateIn u)) (inRules (stateIn u) (length b)) _ n tt g e))) r a b
 
   module _ (z : n ≡ 0) where
-    pub poll-fits : CanPoll (packetSize (stateIn u)) (inOf (stateIn u)) (length b)
-    poll-fits unowed = poll-can (stateIn u) (length b) n (state-sound u (is .lent) call (is-sound u call _ n is z)) (by-rules u call _ n is z) z unowed
-
     pub poll-done : (packet : InPacket) → Cuts (nextPacket (packetSize (stateIn u)) (inOf (stateIn u)) (unsentIn (inOf (stateIn u)) (part REPLY-AT STORE u))) packet b b′
         → (v : List ℕ) → v ≡ paste u IN-REPLY-AT (inReplyBytes (packet .side .reply)) IN-REPLY → u′ ≡ paste v IN-TRANSFER-AT (inTransferBytes (packet .side .transfer)) IN-TRANSFER
         → r ≡ record { verdict = done; len = packet .len } → Fills (onBytes u call) b b′ u′ r
     unfolding opened soundly quietly bulkIn poll
     poll-done packet cuts v f g a =
         let st = stateIn u in
-        let e = is-sound u call _ n is z in
+        let e = is-sound is z in
         let next = nextPacket (packetSize st) (inOf st) (unsentOf (opened u)) in
-        let put = in-transfer-put (packet .side .transfer) .to (in-reply-put (packet .side .reply) .to (holds u (is .lent) call e) f) g in
+        let put = in-transfer-put (packet .side .transfer) .to (in-reply-put (packet .side .reply) .to (holds u (is .lent) e) f) g in
         let same : carrying (inOf st) (packet .side .reply) (packet .side .transfer) ≡ next .side = ap (λ (k : InPacket). carrying (inOf st) (k .side .reply) (k .side .transfer)) (cuts .0) ∙ packet-parts (packetSize st) (inOf st) (unsentOf (opened u)) in
-        fills u (is .lent) call e _ (sym (ap (said (opened u)) (passes (refuse st) (inRules st (length b)) _ n tt (by-rules u call _ n is z) z))) u′ r
+        fills u (is .lent) call e _ (sym (ap (said (opened u)) (passes (refuse st) (inRules st (length b)) _ n tt (by-rules is z) z))) u′ r
         (subst (λ (k : BulkIn). Holds (record { message = opened u .message; reply = opened u .reply; state = withIn st k }) u′) same put)
         (a ∙ ap {B = Answer} (λ (k : InPacket). record { verdict = done; len = k .len }) (cuts .0))
         b b′ (cuts .1)

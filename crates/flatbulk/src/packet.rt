@@ -32,8 +32,7 @@ use wire::numbers::widened;
 use wire::types::Header;
 ghost use mathlib.Core.Path.{_≡_};
 ghost use Rattle.port.specs.Step.{out-packet};
-ghost use Rattle.flatcalls.specs.Promise.{onBytes, Leaves};
-ghost use Rattle.flatbulk.specs.ComesTo.{ComesTo};
+ghost use Rattle.flatcalls.specs.Promise.{ComesTo, onBytes, Leaves};
 
 // What a packet comes to; it is kept with 1 where the bytes are no sound unit's.
 fn outcome_of(u: &[u8; UNIT], s: &[u8]) -> Outcome

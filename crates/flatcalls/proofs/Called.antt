@@ -7,22 +7,21 @@ use mathlib.Core.List.{List}
 use mathlib.Core.Logic.{⊎-elim}
 use native.Mathlib.Omega.{arith}
 use lib.ListN.{length}
-use Rattle.rules.specs.Choice.{_and_, pick, first}
 use Rattle.rules.specs.Answers.{UNSOUND}
-use Rattle.rules.proofs.Choice.{at-true, at-false, both-left, both-right, not-both}
+use Rattle.rules.proofs.Choice.{pick-true, pick-false, at-true, at-false, both-left, both-right, not-both}
 use Rattle.wire.specs.Bytes.{into}
 use Rattle.port.specs.Parts.{portOf}
 use Rattle.port.specs.Sound.{sound}
 use Rattle.port.specs.Answer.{number}
-use Rattle.port.specs.Device.{Device, Result}
+use Rattle.port.specs.Device.{Result}
 use Rattle.port.specs.Calls.{refused}
 use Rattle.port.specs.Step.{Call, soundly, step}
 use Rattle.port.proofs.KeepsOut.{cases}
 use Rattle.port.proofs.Calls.{step-sound, unsound-refused}
-use Rattle.flat.specs.Flat.{PORT, PORT-AT, portIn, part, stateIn, opened, shut, isUnit}
+use Rattle.flat.specs.Flat.{UNIT, PORT, PORT-AT, portIn, part, stateIn, opened, shut, isUnit, Bytes}
 use Rattle.flat.proofs.Again.{shut-opened}
 use Rattle.flat.proofs.Puts.{Holds, opened-holds}
-use Rattle.flatcalls.specs.Promise.{isSoundUnit, Lent, IsNumber, Left, shutOf, keptOf, onBytes, Leaves, Fills, answerOf}
+use Rattle.flatcalls.specs.Promise.{isSoundUnit, Lent, Decided, Left, shutOf, keptOf, onBytes, Leaves, Fills, answerOf}
 use Rattle.flatcalls.specs.declared.types.Answer.{Answer}
 
 -- bytes that are a unit's, and those that are not
@@ -35,9 +34,15 @@ module _ (u : List ℕ) (c : Call) where
   unfolding onBytes
   on-none e = at-false _ _ _ e
 
+pub state-sound : (u : List ℕ) → isSoundUnit u ≡ true → sound (stateIn u) ≡ true
+state-sound u e = both-right (isUnit u) _ e
+
 module _ (u : List ℕ) (lent : Lent u) where
   pub again : isUnit u ≡ true → shut (opened u) ≡ u
   again is = shut-opened u (lent .long) (lent .small) is
+
+  pub holds : isSoundUnit u ≡ true → Holds (opened u) u
+  holds e = opened-holds u (lent .long) (lent .small) (both-left _ _ e)
 
   module _ (c : Call) where
     unsound-left : isSoundUnit u ≡ false → onBytes u c ≡ keptOf u UNSOUND
@@ -51,13 +56,7 @@ module _ (u : List ℕ) (lent : Lent u) where
     module _ (e : isSoundUnit u ≡ true) where
       sound-left : onBytes u c ≡ shutOf (soundly (opened u) c)
       unfolding opened
-      sound-left = on-unit u c (both-left _ _ e) ∙ ap shutOf (step-sound (opened u) c (both-right (isUnit u) _ e))
-
-      pub state-sound : sound (stateIn u) ≡ true
-      state-sound = both-right (isUnit u) _ e
-
-      pub holds : Holds (opened u) u
-      holds = opened-holds u (lent .long) (lent .small) (both-left _ _ e)
+      sound-left = on-unit u c (both-left _ _ e) ∙ ap shutOf (step-sound (opened u) c (state-sound u e))
 
       -- a refusal: nothing is written
       module _ (n : ℕ) (refuses : soundly (opened u) c ≡ refused (opened u) n) where
@@ -88,31 +87,43 @@ module _ (u : List ℕ) (lent : Lent u) where
       pub kept-into : onBytes u c ≡ keptOf u n → (b : List ℕ) → Fills (onBytes u c) b b u r
       kept-into e b = record { left = kept e; buffer = ap (λ (l : Left). into (l .answer .bytes) b) (sym e) }
 
--- ** a call whose rules are asked first
+-- ** what is decided over the bytes
 
-module _ (u : List ℕ) (c : Call) (rules : List (Bool × ℕ)) (n : ℕ) (is : IsNumber u rules n) where
-  -- one applies, and the call is refused; or the bytes are no sound unit's
-  module _ (refuses : isSoundUnit u ≡ true → n ≡ first rules 0 → soundly (opened u) c ≡ refused (opened u) n) (r : Answer) (a : r ≡ answerOf (number n)) where
-    left : onBytes u c ≡ keptOf u n
-    left = stays u (is .lent) c n (λ e. refuses e (is .number ∙ at-true _ _ _ e)) (λ e. is .number ∙ at-false _ _ _ e)
+module _ {A : Type 0} {u : List ℕ} {x y r : A} where
+  -- by code that asks first whether they are a sound unit's
+  module _ {b : Bool} (asked : (b ≡ isSoundUnit u) × Bytes u) (long : length u ≡ UNIT) where
+    pub on-sound : b ≡ true → r ≡ x → Decided u x y r
+    on-sound e f = record { is = pick-true _ _ _ _ (sym (asked .0) ∙ e) f; lent = record { long = long; small = asked .1 } }
 
-    pub refusal : Leaves (onBytes u c) u r
-    refusal = kept u (is .lent) c n r a left
+    pub on-other : b ≡ false → r ≡ y → Decided u x y r
+    on-other e f = record { is = pick-false _ _ _ _ (sym (asked .0) ∙ e) f; lent = record { long = long; small = asked .1 } }
 
-    pub refusal-into : (b : List ℕ) → Fills (onBytes u c) b b u r
-    refusal-into = kept-into u (is .lent) c n r a left
+  -- what is not said of others is said of a sound unit
+  module _ (h : Decided u x y r) (other : r ≡ y → ⊥) where
+    pub sound-unit : isSoundUnit u ≡ true
+    sound-unit = ⊎-elim (λ e. e) (λ e. absurd (other (h .is ∙ at-false _ _ _ e))) (cases (isSoundUnit u))
 
-  -- none applies: the unit is sound
-  module _ (z : n ≡ 0) where
-    pub is-sound : isSoundUnit u ≡ true
-    is-sound =
-        ⊎-elim
-        (λ e. e)
-        (λ e. absurd (let k = is .number ∙ at-false _ _ _ e in omega arith))
-        (cases (isSoundUnit u))
+    pub comes : x ≡ r
+    comes = sym (h .is ∙ at-true _ _ _ sound-unit)
 
-    pub by-rules : n ≡ first rules 0
-    by-rules = is .number ∙ at-true _ _ _ is-sound
+-- no rule applies: the unit is sound
+module _ {u : List ℕ} {x n : ℕ} (h : Decided u x UNSOUND n) (z : n ≡ 0) where
+  pub is-sound : isSoundUnit u ≡ true
+  is-sound = sound-unit h (λ e. omega arith)
+
+  pub by-rules : n ≡ x
+  by-rules = sym (comes h (λ e. omega arith))
+
+-- a call whose rules are asked first: one applies, and it is refused; or the bytes are no sound unit's
+module _ (u : List ℕ) (c : Call) {x n : ℕ} (h : Decided u x UNSOUND n) (refuses : isSoundUnit u ≡ true → n ≡ x → soundly (opened u) c ≡ refused (opened u) n) (r : Answer) (a : r ≡ answerOf (number n)) where
+  left : onBytes u c ≡ keptOf u n
+  left = stays u (h .lent) c n (λ e. refuses e (h .is ∙ at-true _ _ _ e)) (λ e. h .is ∙ at-false _ _ _ e)
+
+  pub refusal : Leaves (onBytes u c) u r
+  refusal = kept u (h .lent) c n r a left
+
+  pub refusal-into : (b : List ℕ) → Fills (onBytes u c) b b u r
+  refusal-into = kept-into u (h .lent) c n r a left
 
 -- the port of the unit that these bytes are
 pub port-is : (u : List ℕ) → portIn (part PORT-AT PORT u) ≡ portOf (stateIn u)

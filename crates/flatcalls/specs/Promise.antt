@@ -10,7 +10,13 @@ use Rattle.rules.specs.Answers.{UNSOUND}
 use Rattle.wire.specs.Bytes.{into}
 use Rattle.port.specs.Sound.{sound}
 use Rattle.port.specs.Answer.{number, Answer as Said}
-use Rattle.port.specs.Device.{Device, Result}
+use Rattle.port.specs.Out.{outcome}
+use Rattle.port.specs.Device.{Result}
+use Rattle.port.specs.Calls.{setupOutcome}
+use Rattle.port.specs.declared.types.Outcome.{Outcome}
+use Rattle.port.specs.declared.types.Outcome.the-variants.{Keep}
+use Rattle.port.specs.declared.types.SetupOutcome.{SetupOutcome}
+use Rattle.port.specs.declared.types.SetupOutcome.the-variants.{Denies}
 use Rattle.port.specs.Step.{Call, step}
 use Rattle.flat.specs.Flat.{UNIT, stateIn, isUnit, opened, shut, Bytes}
 use Rattle.flatcalls.specs.declared.types.Answer.{Answer}
@@ -24,10 +30,22 @@ pub record Lent (u : List ℕ) : Type 0 where
   pub long : length u ≡ UNIT
   pub small : Bytes u
 
--- the number of the first rule that applies to a call on the unit that these bytes are, 1 for those of no sound one, or 0
-pub record IsNumber (u : List ℕ) (rules : List (Bool × ℕ)) (n : ℕ) : Type 0 where
-  pub number : n ≡ pick (isSoundUnit u) (first rules 0) UNSOUND
+-- what a call comes to on the bytes that it is lent: `x` on those of a sound unit, `y` on others
+pub record Decided {A : Type 0} (u : List ℕ) (x y r : A) : Type 0 where
+  pub is : r ≡ pick (isSoundUnit u) x y
   pub lent : Lent u
+
+-- the number of the first rule that applies, or 0; 1 on those of no sound unit
+abbrev pub IsNumber : List ℕ → List (Bool × ℕ) → ℕ → Type 0
+IsNumber u rules n = Decided u (first rules 0) UNSOUND n
+
+-- what a Bulk-OUT packet comes to: it is kept with 1 on those of no sound unit
+abbrev pub ComesTo : List ℕ → List ℕ → Outcome → Type 0
+ComesTo u s x = Decided u (outcome (stateIn u) s) (Keep UNSOUND) x
+
+-- and a setup packet, which is denied with 1
+abbrev pub SetupComesTo : List ℕ → List ℕ → ℕ → SetupOutcome → Type 0
+SetupComesTo u s room x = Decided u (setupOutcome (stateIn u) s room) (Denies UNSOUND) x
 
 -- a unit in bytes after a call, and the call's answer
 pub record Left : Type 0 where

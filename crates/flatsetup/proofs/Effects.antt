@@ -1,17 +1,17 @@
 -- What each effect of a row does to a unit in bytes.
 -- Assumes nothing.
 use Prim.Native.Nat.{ℕ}
-use mathlib.Core.Path.{_≡_, refl, sym, subst}
+use mathlib.Core.Path.{_≡_, sym, subst}
 use mathlib.Core.List.{List, [], _∷_}
 use lib.Seq.{paste}
 use borrow.Author.Tests.{eq-eqb, ne-eqb}
 use Rattle.rules.proofs.Choice.{at-true, at-false}
-use Rattle.port.specs.Parts.{on, portOf, outOf, inOf, withRen, emptyOut, broken}
+use Rattle.port.specs.Parts.{portOf, outOf, inOf, withRen, emptyOut, broken}
 use Rattle.port.specs.Remote.{localNow}
 use Rattle.port.specs.Rows.{owing, clearedIn, clearing, clearFeatureOut, clearFeatureIn, effected}
 use Rattle.port.specs.Device.{withState}
 use Rattle.port.specs.declared.types.Effect.{Effect}
-use Rattle.port.specs.declared.types.Effect.the-variants.{Stays, AbortsOut, AbortsIn, Clears, EndsSplit, SetsRen, GoesToLocal, LocksOut, ClearsHalt, SetsHalt}
+use Rattle.port.specs.declared.types.Effect.the-variants.{Stays, AbortsOut, AbortsIn, Clears, EndsSplit, SetsRen, ClearsHalt, SetsHalt}
 use Rattle.port.specs.declared.types.Split.the-variants.{None, AbortOut, AbortIn, Clear}
 use Rattle.port.specs.declared.types.Remote.{Remote}
 use Rattle.port.specs.declared.types.Remote.the-variants.{Locs}

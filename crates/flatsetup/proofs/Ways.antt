@@ -1,10 +1,8 @@
 -- What a setup packet leaves of a unit in bytes, by what it comes to.
 -- Assumes nothing.
 use Prim.Native.Nat.{ℕ, _≤_}
-use mathlib.Core.Path.{_≡_, refl, sym, ap, _∙_, subst}
-use mathlib.Core.Bool.{true}
+use mathlib.Core.Path.{_≡_, sym, ap, _∙_}
 use mathlib.Core.List.{List}
-use mathlib.Core.Logic.{⊎-elim}
 use native.Mathlib.Omega.{arith}
 use lib.ListN.{length}
 use Rattle.rules.specs.Answers.{DONE, UNSOUND}
@@ -14,23 +12,28 @@ use Rattle.wire.specs.Setup.{CONTROL}
 use Rattle.wire.specs.declared.types.Row.{Row}
 use Rattle.port.specs.Parts.{portOf}
 use Rattle.port.specs.Answer.{number}
-use Rattle.port.specs.Rows.{answerRow, reacted}
+use Rattle.port.specs.Rows.{answerRow}
 use Rattle.port.specs.Device.{made}
-use Rattle.port.specs.Calls.{setupOutcome, answered, setup}
+use Rattle.port.specs.Calls.{answered, setup}
 use Rattle.port.specs.Step.{Call, setup-of, soundly}
 use Rattle.port.specs.declared.types.SetupOutcome.{SetupOutcome}
 use Rattle.port.specs.declared.types.SetupOutcome.the-variants.{Denies, Renews, Answers}
-use Rattle.port.proofs.KeepsOut.{cases}
 use Rattle.control.specs.Replied.{repliedOf}
 use Rattle.control.specs.declared.types.Replied.{Replied}
 use Rattle.control.proofs.Serving.{answers-roomy}
 use Rattle.flat.specs.Flat.{stateIn, opened, shut}
 use Rattle.flat.proofs.Puts.{Holds}
-use Rattle.flatcalls.specs.Promise.{isSoundUnit, onBytes, answerOf, Fills}
+use Rattle.flatcalls.specs.Promise.{SetupComesTo, onBytes, answerOf, Fills}
 use Rattle.flatcalls.specs.declared.types.Answer.{Answer}
-use Rattle.flatcalls.proofs.Called.{holds, fills, stays, kept-into}
+use Rattle.flatcalls.proofs.Called.{holds, fills, stays, kept-into, sound-unit, comes}
 use Rattle.flatcalls.proofs.Made.{made-stored}
-use Rattle.flatsetup.specs.Does.{SetupComesTo, Does}
+use Rattle.flatsetup.specs.Does.{Does}
+
+renews-other : {value : ℕ} → Renews value ≡ Denies UNSOUND → ⊥
+renews-other e = let z : _≡_ {A = ℕ} 0 1 = cc in omega arith
+
+answers-other : {row : Row} → Answers row ≡ Denies UNSOUND → ⊥
+answers-other e = let z : _≡_ {A = ℕ} 0 1 = cc in omega arith
 
 module _ (u s b u′ b′ : List ℕ) (r : Answer) where
   abbrev call : Call
@@ -45,37 +48,24 @@ module _ (u s b u′ b′ : List ℕ) (r : Answer) where
       (λ e. let k = h .is ∙ at-false _ _ _ e in cc)) b
 
   -- what is not denied is asked of a sound unit
-  module _ (x : SetupOutcome) (other : x ≡ Denies UNSOUND → ⊥) (h : SetupComesTo u s (length b) x) where
-    is-sound : isSoundUnit u ≡ true
-    is-sound = ⊎-elim (λ e. e) (λ e. absurd (other (h .is ∙ at-false _ _ _ e))) (cases (isSoundUnit u))
-
-    comes : setupOutcome (stateIn u) s (length b) ≡ x
-    comes = sym (h .is ∙ at-true _ _ _ is-sound)
-
-    filled : Holds (answered (opened u) x .unit) u′ → r ≡ answerOf (answered (opened u) x .answer) → b′ ≡ into (answered (opened u) x .answer .bytes) b → Fills (onBytes u call) b b′ u′ r
-    unfolding opened soundly setup
-    filled k a f = fills u (h .lent) call is-sound _ (ap (answered (opened u)) comes) u′ r k a b b′ f
-
-  renews-other : (value : ℕ) → Renews value ≡ Denies UNSOUND → ⊥
-  renews-other value e = let z : _≡_ {A = ℕ} 0 1 = cc in omega arith
-
-  answers-other : (row : Row) → Answers row ≡ Denies UNSOUND → ⊥
-  answers-other row e = let z : _≡_ {A = ℕ} 0 1 = cc in omega arith
+  filled : {x : SetupOutcome} → (x ≡ Denies UNSOUND → ⊥) → SetupComesTo u s (length b) x → Holds (answered (opened u) x .unit) u′ → r ≡ answerOf (answered (opened u) x .answer)
+      → b′ ≡ into (answered (opened u) x .answer .bytes) b → Fills (onBytes u call) b b′ u′ r
+  unfolding opened soundly setup
+  filled other h k a f = fills u (h .lent) call (sound-unit h other) _ (ap (answered (opened u)) (comes h other)) u′ r k a b b′ f
 
   pub renewed : (value : ℕ) → SetupComesTo u s (length b) (Renews value) → u′ ≡ shut (made (portOf (stateIn u) .setting) value) → b′ ≡ b → r ≡ answerOf (number DONE) → Fills (onBytes u call) b b′ u′ r
   unfolding opened answered
-  renewed value h f g a = filled (Renews value) (renews-other value) h (record { stored = made-stored _ value; bytes = f }) a g
+  renewed value h f g a = filled renews-other h (record { stored = made-stored _ value; bytes = f }) a g
 
   module _ (row : Row) (h : SetupComesTo u s (length b) (Answers row)) where
     pub roomy : CONTROL ≤ length b
-    roomy = answers-roomy (stateIn u) s (length b) row (sym (comes (Answers row) (answers-other row) h))
+    roomy = answers-roomy (stateIn u) s (length b) row (sym (comes h answers-other))
 
     pub replied : (p : Replied) → p ≡ repliedOf (answerRow (stateIn u) row) → b′ ≡ into (answerRow (stateIn u) row .answer .bytes) b → Does u (p .effect) u′ → r ≡ record { verdict = p .verdict; len = p .len } → Fills (onBytes u call) b b′ u′ r
     unfolding opened answered
     replied p e f does a =
-        let x = Answers row in
-        let before = holds u (h .lent) call (is-sound x (answers-other row) h) in
+        let before = holds u (h .lent) (sound-unit h answers-other) in
         let after = rw e at (does .to (before .stored) (before .bytes)) in
-        filled x (answers-other row) h
+        filled answers-other h
         (record { stored = record { message = before .stored .message; reply = before .stored .reply }; bytes = after })
         (a ∙ ap {B = Answer} (λ (q : Replied). record { verdict = q .verdict; len = q .len }) e) f

@@ -15,8 +15,7 @@ use rules::UNSOUND;
 use wire::types::Row;
 ghost use lib.ListN.{length};
 ghost use Rattle.port.specs.Step.{setup-of};
-ghost use Rattle.flatcalls.specs.Promise.{onBytes, Fills};
-ghost use Rattle.flatsetup.specs.Does.{SetupComesTo};
+ghost use Rattle.flatcalls.specs.Promise.{SetupComesTo, onBytes, Fills};
 
 // What a setup packet comes to; it is denied with 1 where the bytes are no sound unit's.
 fn outcome_of(u: &[u8; UNIT], s: &[u8], room: usize) -> SetupOutcome

@@ -1,7 +1,7 @@
 -- What each of the thermostat's calls leaves, by the way that its code takes.
 -- Assumes nothing.
 use Prim.Native.Nat.{ℕ, _≤_}
-use mathlib.Core.Path.{_≡_, refl, sym, ap, _∙_}
+use mathlib.Core.Path.{_≡_, sym, ap, _∙_}
 use mathlib.Core.List.{List, [], _∷_}
 use native.Mathlib.Omega.{arith}
 use lib.ListN.{length, take, length-take}
@@ -12,14 +12,13 @@ use Rattle.wire.specs.Bytes.{into}
 use Rattle.wire.proofs.Fronts.{front-pasted}
 use Rattle.port.specs.Parts.{STORE, withStatus, noMessage, outOf}
 use Rattle.port.specs.Remote.{byPanel}
-use Rattle.port.specs.Answer.{number, says, refuse}
-use Rattle.port.specs.Out.{plain}
-use Rattle.port.specs.Device.{Device, heldOf}
-use Rattle.port.specs.Calls.{refused, said, takeRules, released, taking, take-message, offerRules, offered, offerPlan, withReply, offer, thermostatRules, statusSet, setStatus, returned, panel}
+use Rattle.port.specs.Answer.{number, refuse}
+use Rattle.port.specs.Device.{heldOf}
+use Rattle.port.specs.Calls.{said, takeRules, released, take-message, offerRules, offered, withReply, offer, thermostatRules, statusSet, setStatus, returned, panel}
 use Rattle.port.specs.Step.{quiet, take-into, offer-reply, set-status, front-panel, quietly, soundly}
 use Rattle.port.proofs.Calls.{unstored}
 use Rattle.messages.proofs.MessageLaws.{take-refused, take-done, take-fits, offer-refused, offer-done, offer-fits}
-use Rattle.flat.specs.Flat.{PORT, OUT-MESSAGE, IN-REPLY, REPLY-AT, PORT-AT, REMOTE-AT, OUT-MESSAGE-AT, IN-REPLY-AT, UNIT, portIn, portBytes, placeOf, outMessageBytes, inReplyBytes, part, stateIn, opened}
+use Rattle.flat.specs.Flat.{PORT, OUT-MESSAGE, IN-REPLY, REPLY-AT, PORT-AT, REMOTE-AT, OUT-MESSAGE-AT, IN-REPLY-AT, portIn, portBytes, placeOf, outMessageBytes, inReplyBytes, part, stateIn, opened}
 use Rattle.flat.proofs.Puts.{port-put, remote-put, out-message-put, in-reply-put, reply-put}
 use Rattle.flatcalls.specs.Promise.{IsNumber, onBytes, answerOf, Leaves, Fills}
 use Rattle.flatcalls.specs.declared.types.Answer.{Answer}
@@ -32,55 +31,53 @@ module _ (u : List ℕ) (n : ℕ) (u′ : List ℕ) (r : Answer) where
     module _ (status : ℕ) where
       pub status-refused : (n ≡ 0 → ⊥) → r ≡ answerOf (number n) → Leaves (onBytes u (quiet (set-status status))) u r
       unfolding opened soundly quietly setStatus statusSet
-      status-refused e a = refusal u (quiet (set-status status)) _ n is (λ _ g. sym (ap (said (opened u)) (refuses (refuse (stateIn u)) (thermostatRules (stateIn u)) _ n tt g e))) r a
+      status-refused e a = refusal u (quiet (set-status status)) is (λ _ g. sym (ap (said (opened u)) (refuses (refuse (stateIn u)) (thermostatRules (stateIn u)) _ n tt g e))) r a
 
       pub status-done : n ≡ 0 → u′ ≡ paste u PORT-AT (portBytes (withStatus (portIn (part PORT-AT PORT u)) status)) PORT → r ≡ answerOf (number DONE) → Leaves (onBytes u (quiet (set-status status))) u′ r
       unfolding opened soundly quietly setStatus statusSet stateIn
       status-done z f a =
           let c = quiet (set-status status) in
-          let e = is-sound u c _ n is z in
+          let e = is-sound is z in
           let p = withStatus (portIn (part PORT-AT PORT u)) status in
-          leaves u (is .lent) c e _ (sym (ap (said (opened u)) (passes (refuse (stateIn u)) (thermostatRules (stateIn u)) _ n tt (by-rules u c _ n is z) z))) u′ r
-          (port-put p .to (holds u (is .lent) c e) f) a
+          leaves u (is .lent) c e _ (sym (ap (said (opened u)) (passes (refuse (stateIn u)) (thermostatRules (stateIn u)) _ n tt (by-rules is z) z))) u′ r
+          (port-put p .to (holds u (is .lent) e) f) a
 
     pub panel-refused : (n ≡ 0 → ⊥) → r ≡ answerOf (number n) → Leaves (onBytes u (quiet front-panel)) u r
     unfolding opened soundly quietly panel returned
-    panel-refused e a = refusal u (quiet front-panel) _ n is (λ _ g. sym (ap (said (opened u)) (refuses (refuse (stateIn u)) (thermostatRules (stateIn u)) _ n tt g e))) r a
+    panel-refused e a = refusal u (quiet front-panel) is (λ _ g. sym (ap (said (opened u)) (refuses (refuse (stateIn u)) (thermostatRules (stateIn u)) _ n tt g e))) r a
 
     pub panel-done : n ≡ 0 → u′ ≡ paste u REMOTE-AT (placeOf (byPanel (stateIn u .remote)) ∷ []) 1 → r ≡ answerOf (number DONE) → Leaves (onBytes u (quiet front-panel)) u′ r
     unfolding opened soundly quietly panel returned
     panel-done z f a =
         let c = quiet front-panel in
-        let e = is-sound u c _ n is z in
-        leaves u (is .lent) c e _ (sym (ap (said (opened u)) (passes (refuse (stateIn u)) (thermostatRules (stateIn u)) _ n tt (by-rules u c _ n is z) z))) u′ r
-        (remote-put (byPanel (stateIn u .remote)) .to (holds u (is .lent) c e) f) a
+        let e = is-sound is z in
+        leaves u (is .lent) c e _ (sym (ap (said (opened u)) (passes (refuse (stateIn u)) (thermostatRules (stateIn u)) _ n tt (by-rules is z) z))) u′ r
+        (remote-put (byPanel (stateIn u .remote)) .to (holds u (is .lent) e) f) a
 
   -- ** a take
 
   module _ (b b′ : List ℕ) (is : IsNumber u (takeRules (stateIn u) (length b)) n) where
     pub take-kept : (n ≡ 0 → ⊥) → r ≡ answerOf (number n) → Fills (onBytes u (take-into (length b))) b b u r
     unfolding opened soundly take-message
-    take-kept e a = refusal-into u (take-into (length b)) _ n is (λ _ g. sym (ap (said (opened u)) (take-refused (stateIn u) n (length b) g (heldOf (opened u)) e))) r a b
+    take-kept e a = refusal-into u (take-into (length b)) is (λ _ g. sym (ap (said (opened u)) (take-refused (stateIn u) n (length b) g (heldOf (opened u)) e))) r a b
 
     -- the message is in its store, and the lent buffer has room for it
     pub take-room : n ≡ 0 → (outOf (stateIn u) .message .held ≤ STORE) × (outOf (stateIn u) .message .held ≤ length b)
-    take-room z =
-        let c = take-into (length b) in
-        take-fits (stateIn u) n (length b) (by-rules u c _ n is z) (state-sound u (is .lent) c (is-sound u c _ n is z)) z
+    take-room z = take-fits (stateIn u) n (length b) (by-rules is z) (state-sound u (is-sound is z)) z
 
     pub take-given : n ≡ 0 → b′ ≡ paste b 0 u (stateIn u .small .bulkout .message .held) → u′ ≡ paste u OUT-MESSAGE-AT (outMessageBytes noMessage) OUT-MESSAGE
         → r ≡ record { verdict = only DONE; len = stateIn u .small .bulkout .message .held } → Fills (onBytes u (take-into (length b))) b b′ u′ r
     unfolding opened soundly take-message released
     take-given z f g a =
         let c = take-into (length b) in
-        let e = is-sound u c _ n is z in
+        let e = is-sound is z in
         let st = stateIn u in
         let fit = take-room z in
         let held = heldOf (opened u) in
         let same : held ≡ take (outOf st .message .held) u = take-take (outOf st .message .held) STORE u (fit .0) in
         let whole : outOf st .message .held ≡ length held = sym (ap length same ∙ omega (arith, length-take (outOf st .message .held) u, is .lent .long)) in
-        fills u (is .lent) c e _ (sym (ap (said (opened u)) (take-done st n (length b) (by-rules u c _ n is z) held z))) u′ r
-        (out-message-put noMessage .to (holds u (is .lent) c e) g)
+        fills u (is .lent) c e _ (sym (ap (said (opened u)) (take-done st n (length b) (by-rules is z) held z))) u′ r
+        (out-message-put noMessage .to (holds u (is .lent) e) g)
         (a ∙ ap {B = Answer} (λ (k : ℕ). record { verdict = only DONE; len = k }) whole)
         b b′ (f ∙ front-pasted b u (outOf st .message .held) (omega (arith, is .lent .long)) ∙ ap (λ (l : List ℕ). into l b) (sym same))
 
@@ -90,17 +87,17 @@ module _ (u : List ℕ) (n : ℕ) (u′ : List ℕ) (r : Answer) where
     pub offer-kept : (n ≡ 0 → ⊥) → r ≡ answerOf (number n) → Leaves (onBytes u (quiet (offer-reply bytes))) u r
     unfolding opened soundly quietly offer
     offer-kept e a =
-        refusal u (quiet (offer-reply bytes)) _ n is (λ _ g. ap (withReply (opened u) bytes) (sym (offer-refused (stateIn u) n (length bytes) g e)) ∙ unstored (opened u) bytes n) r a
+        refusal u (quiet (offer-reply bytes)) is (λ _ g. ap (withReply (opened u) bytes) (sym (offer-refused (stateIn u) n (length bytes) g e)) ∙ unstored (opened u) bytes n) r a
 
     pub offer-room : n ≡ 0 → length bytes ≤ STORE
-    offer-room z = offer-fits (stateIn u) n (length bytes) (by-rules u (quiet (offer-reply bytes)) _ n is z) z
+    offer-room z = offer-fits (stateIn u) n (length bytes) (by-rules is z) z
 
     pub offer-given : n ≡ 0 → (v : List ℕ) → v ≡ paste u REPLY-AT bytes (length bytes) → u′ ≡ paste v IN-REPLY-AT (inReplyBytes (record { at = 0; unsent = length bytes })) IN-REPLY
         → r ≡ answerOf (number DONE) → Leaves (onBytes u (quiet (offer-reply bytes))) u′ r
     unfolding opened soundly quietly offer offered
     offer-given z v f g a =
         let c = quiet (offer-reply bytes) in
-        let e = is-sound u c _ n is z in
+        let e = is-sound is z in
         let fit = offer-room z in
-        leaves u (is .lent) c e _ (sym (ap (withReply (opened u) bytes) (offer-done (stateIn u) n (length bytes) (by-rules u c _ n is z) z))) u′ r
-        (in-reply-put (record { at = 0; unsent = length bytes }) .to (reply-put bytes (length bytes) fit (omega arith) .to (holds u (is .lent) c e) f) g) a
+        leaves u (is .lent) c e _ (sym (ap (withReply (opened u) bytes) (offer-done (stateIn u) n (length bytes) (by-rules is z) z))) u′ r
+        (in-reply-put (record { at = 0; unsent = length bytes }) .to (reply-put bytes (length bytes) fit (omega arith) .to (holds u (is .lent) e) f) g) a

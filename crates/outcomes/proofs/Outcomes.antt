@@ -6,13 +6,13 @@ use mathlib.Core.Bool.{false}
 use mathlib.Core.List.{List}
 use lib.ListN.{length}
 use borrow.Author.Tests.{eq-eqb, ne-eqb, lt-ltb, le-ltb}
-use Rattle.rules.specs.Choice.{pick, first}
+use Rattle.rules.specs.Choice.{first}
 use Rattle.rules.proofs.Choice.{eq-neb, ne-neb, pick-true, pick-false, refuses, passes}
 use Rattle.wire.specs.Header.{HEADER, readHeader}
 use Rattle.wire.specs.declared.types.Header.{Header}
 use Rattle.wire.specs.declared.types.Read.the-variants.{Good}
 use Rattle.port.specs.Parts.{STORE, packetSize, outOf, inOf}
-use Rattle.port.specs.Out.{fitRules, more, outOfTurn, dataLength, headerRules, headerSays, outRules, outcome, accepted}
+use Rattle.port.specs.Out.{fitRules, more, outOfTurn, dataLength, headerRules, headerSays, outRules, outcome}
 use Rattle.port.specs.declared.types.State.{State}
 use Rattle.port.specs.declared.types.Outcome.{Outcome}
 use Rattle.port.specs.declared.types.Outcome.the-variants.{Keep, Halt, Data, Accept}

@@ -9,7 +9,7 @@ use native.Mathlib.Omega.{arith}
 use lib.ListN.{length}
 use lib.Seq.{paste, paste-zero}
 use borrow.Author.Tests.{ltb-false}
-use Rattle.rules.specs.Choice.{_=ᵇ_, pick, decide}
+use Rattle.rules.specs.Choice.{_=ᵇ_}
 use Rattle.rules.proofs.Choice.{neb-ne, pick-all, decide-all}
 use Rattle.wire.specs.Header.{HEADER, readHeader}
 use Rattle.wire.specs.declared.types.Header.{Header}

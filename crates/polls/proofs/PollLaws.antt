@@ -17,12 +17,11 @@ use Rattle.wire.specs.Bytes.{byte, bytes4, into}
 use Rattle.wire.specs.Header.{HEADER, D1, inHeader}
 use Rattle.port.specs.Parts.{STORE, FULL-SPEED, HIGH-SPEED, CLOSED, ASKED, SENDING, OWED, on, isSize, inOf, packetSize, withIn, shut}
 use Rattle.port.specs.Sound.{sound}
-use Rattle.port.specs.Answer.{Said, refuse}
+use Rattle.port.specs.Answer.{refuse}
 use Rattle.port.specs.In.{Packet, upTo, sendable, termMark, marks, fixed, header, started, toGo, gone, send, nextPacket, nothingToSend, inRules, sends, poll}
 use Rattle.port.specs.Device.{unsentIn}
 use Rattle.port.specs.Given.{givenOf, Hands}
 use Rattle.port.specs.declared.types.BulkIn.{BulkIn}
-use Rattle.port.specs.declared.types.Given.{Given}
 use Rattle.port.specs.declared.types.State.{State}
 use Rattle.port.proofs.Soundness.{Phase, is-closed, is-asked, is-sending, is-owed, sound-of}
 use Rattle.state.proofs.Handed.{hands-by}

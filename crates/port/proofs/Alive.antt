@@ -1,24 +1,16 @@
 -- A unit and the same with just its live part answer alike, and their live parts agree again: what a call decides never looks at a dead byte
 -- of a store, nor at where in its store the reply stands.
 -- Assumes nothing.
-use Prim.Native.Nat.{ℕ, zero, suc, _+_, _-_, _≤_, _<_, min}
-use mathlib.Core.Path.{_≡_, refl, sym, ap, ap₂, _∙_, subst}
-use mathlib.Core.Bool.{Bool, true, false}
+use Prim.Native.Nat.{ℕ, zero, suc, _+_, _-_, _≤_}
+use mathlib.Core.Path.{_≡_, refl, sym, ap, _∙_}
 use mathlib.Core.List.{List, [], _∷_, _++_}
-use mathlib.Core.Logic.{_⊎_, inl, inr, ⊎-elim}
 use native.Mathlib.Omega.{arith}
-use native.Mathlib.Nat.{zero-add, add-zero}
-use lib.ListN.{length, take, drop, replicate, length-append, length-take, length-drop, length-replicate}
-use lib.Seq.{paste, paste-zero, take-paste, take-at, take-take, length-take-le, drop-drop}
-use Rattle.rules.specs.Choice.{_=ᵇ_, _<ᵇ_, no, _or_, pick, _⇒_∣_, decide}
-use Rattle.rules.specs.Answers.{DONE}
-use Rattle.rules.proofs.Choice.{pick-all, pick-both, decide-both, at-true, at-false, no-false}
-use Rattle.port.specs.Parts.{STORE, ASKED, on, packetSize, outOf, inOf, withOut, withIn, broken, haltedOut, shut}
-use Rattle.port.specs.Device.{Device, Result, isSound, withState, heldOf, unsentOf, zeroed}
-use Rattle.port.specs.Calls.{refused, said}
-use Rattle.port.specs.Live.{Live, atFront, live, alive}
+use lib.ListN.{length, take, drop, replicate, length-append, length-drop, length-replicate}
+use lib.Seq.{take-at, take-take, length-take-le, drop-drop}
+use Rattle.port.specs.Parts.{STORE, outOf, inOf, withIn}
+use Rattle.port.specs.Device.{Device, Result, withState, heldOf, unsentOf, zeroed}
+use Rattle.port.specs.Live.{atFront, live, alive}
 use Rattle.port.specs.Laws.{Stored}
-use Rattle.port.specs.declared.types.BulkIn.{BulkIn}
 use Rattle.port.specs.declared.types.State.{State}
 use Rattle.port.proofs.Soundness.{Sound}
 use Rattle.port.proofs.KeepsOut.{out-held}

@@ -7,7 +7,7 @@ use mathlib.Core.List.{List, [], _∷_}
 use native.Mathlib.Omega.{arith}
 use borrow.Author.Tests.{eqb-true, ne-eqb}
 use lib.ListN.{length}
-use Rattle.rules.specs.Choice.{_=ᵇ_, no, _and_, pick, decide}
+use Rattle.rules.specs.Choice.{_=ᵇ_, _and_}
 use Rattle.rules.specs.Answers.{DONE, UNSOUND, WRONG-SIZE, NO-ROW, SUCCESS, Leaves, as-ruled, unchanged, out-halted, leaves}
 use Rattle.rules.proofs.Choice.{pick-all, decide-all, eq-neb, and-left, and-right, both-right}
 use Rattle.wire.specs.Bytes.{byte}
@@ -22,14 +22,14 @@ use Rattle.port.specs.Parts.{on, isOpenOut, unfinished, isClear, outOf, 
 use Rattle.port.specs.Rows.{Reaction, answering, reacts, abortRules, outTag, initiateAbortOut, initiateClear, clearing, clearFeatureOut, answerRow, effected}
 use Rattle.port.specs.Device.{Device, Result, isSound, made}
 use Rattle.port.specs.Calls.{refused, setupRules, asked, setupOutcome, answered, setup, busReset}
-use Rattle.port.specs.Step.{Call, setup-packet, out-packet, take-into, bus-reset, quiet, soundly, step}
+use Rattle.port.specs.Step.{setup-packet, out-packet, take-into, bus-reset, quiet, soundly, step}
 use Rattle.port.specs.Breaks.{halting, breaksRow, breaksSetup, isBreak}
 use Rattle.port.specs.Laws.{LeftAs, BreakDrops}
 use Rattle.port.specs.declared.types.OutMessage.{OutMessage}
 use Rattle.port.specs.declared.types.BulkOut.{BulkOut}
 use Rattle.port.specs.declared.types.Effect.the-variants.{AbortsOut}
 use Rattle.port.specs.declared.types.SetupOutcome.{SetupOutcome}
-use Rattle.port.specs.declared.types.SetupOutcome.the-variants.{Denies, Renews, Answers}
+use Rattle.port.specs.declared.types.SetupOutcome.the-variants.{Denies}
 use Rattle.port.specs.declared.types.State.{State}
 use Rattle.port.proofs.Calls.{leaves-table}
 

@@ -5,7 +5,7 @@ use Prim.Native.Nat.{ℕ, _+_, _-_, _≤_, min}
 use mathlib.Core.Path.{_≡_, refl, sym, ap, _∙_, subst}
 use mathlib.Core.Bool.{Bool, true, false, cond, true≢false}
 use mathlib.Core.List.{List, [], _∷_}
-use mathlib.Core.Logic.{_⊎_, inl, inr, ⊎-elim}
+use mathlib.Core.Logic.{inl, inr, ⊎-elim}
 use native.Mathlib.Omega.{arith}
 use lib.ListN.{length, drop, length-replicate, length-drop}
 use lib.Dec.{T, eqb}
@@ -13,7 +13,7 @@ use lib.Seq.{paste, paste-zero, length-paste}
 use borrow.Author.Tests.{ne-eqb, eqb-true, eqb-false, ltb-false}
 use Rattle.rules.specs.Choice.{_=ᵇ_, pick, decide}
 use Rattle.rules.specs.Answers.{DONE, UNSOUND, UNCONFIGURED, WRONG-SIZE, HALTED, WAIT, NOT-IN-FOURS, SHORT-HEADER, BAD-TAG, UNKNOWN-MSGID, RESERVED, WRONG-LENGTH, TOO-LONG, OUT-OF-TURN, MISALIGNED, NO-ROW, NOT-NOW, unchanged, out-halted, leaves, only}
-use Rattle.rules.proofs.Choice.{Each, pick-all, decide-all, at-true, at-false, no-true, not-no, none-left, none-right, eq-neb, or-left, not-both, decide-lines}
+use Rattle.rules.proofs.Choice.{pick-all, decide-all, at-true, at-false, no-true, not-no, none-left, none-right, eq-neb, or-left, not-both, decide-lines}
 use Rattle.wire.specs.Header.{HEADER, OFF}
 use Rattle.wire.specs.Setup.{wValue, matches, row, toDevice, readSetup}
 use Rattle.wire.specs.declared.types.Header.{Header}
@@ -25,12 +25,12 @@ use Rattle.wire.specs.declared.types.Setup.the-variants.{Configure, Asks, NoRow
 use Rattle.wire.proofs.SetupLaws.{Configures, setup-configures}
 use Rattle.port.specs.Parts.{STORE, FULL-SPEED, isSize, CLOSED, OWED, isOwed, isOpenOut, isOpenIn, hasReply, isClear, portOf, outOf, inOf, packetSize, isConfigured, haltedOut}
 use Rattle.port.specs.Answer.{Said, number, refuse}
-use Rattle.port.specs.Out.{plain, outcome, planned, accepted, outPlan, dataLength}
+use Rattle.port.specs.Out.{plain, planned, accepted, outPlan, dataLength}
 use Rattle.port.specs.In.{nothingToSend, inRules, poll}
 use Rattle.port.specs.Rows.{Reaction, answering, abortRules, outTag, inTag, initiateAbortOut, initiateAbortIn, checkAbortOut, checkAbortIn, initiateClear, checkClear, answerRow}
 use Rattle.port.specs.Device.{Device, Result, isSound, withState, unsentOf, zeroed, made, powerOn}
-use Rattle.port.specs.Calls.{refused, said, carriedOut, bulkOut, bulkIn, setupRules, asked, setupOutcome, renewed, answered, setup, takeRules, taking, take-message, offerRules, offerPlan, withReply, offer, thermostatRules, statusSet, setStatus, returned, panel, busReset, suspend}
-use Rattle.port.specs.Step.{Quiet, in-poll, offer-reply, set-status, front-panel, bus-suspend, Call, setup-packet, out-packet, take-into, bus-reset, quiet, quietly, soundly, step}
+use Rattle.port.specs.Calls.{refused, said, carriedOut, bulkOut, bulkIn, setupRules, asked, setupOutcome, answered, setup, takeRules, taking, take-message, offerRules, offerPlan, withReply, offer, thermostatRules, statusSet, setStatus, returned, panel, busReset, suspend}
+use Rattle.port.specs.Step.{in-poll, offer-reply, set-status, front-panel, bus-suspend, Call, setup-packet, out-packet, take-into, bus-reset, quiet, quietly, soundly, step}
 use Rattle.port.specs.Lists.{bulk, faults, Kind, setup as setting-up, out, poll as polling, taking as takes, offering, status, panel as panels, reset, suspending, kindOf, own, ownList}
 use Rattle.port.specs.Laws.{OneOf, Stored, PowerOnSound, PowerOnAnswers, Orders, KeepsSound, KeepsStored, UnsoundRefused, OnlyUnsound, OwnNumbers, LeftAs, LeavesTable, Zeroed, Zeroes, SET-CONFIGURATION}
 use Rattle.port.specs.declared.types.Setting.{Setting}
@@ -41,9 +41,9 @@ use Rattle.port.specs.declared.types.Plan.{Plan}
 use Rattle.port.specs.declared.types.Outcome.{Outcome}
 use Rattle.port.specs.declared.types.Outcome.the-variants.{Keep, Halt, Data, Accept}
 use Rattle.port.specs.declared.types.SetupOutcome.{SetupOutcome}
-use Rattle.port.specs.declared.types.SetupOutcome.the-variants.{Denies, Renews, Answers}
+use Rattle.port.specs.declared.types.SetupOutcome.the-variants.{Denies}
 use Rattle.port.proofs.Soundness.{Sound, sound-of, sound-to}
-use Rattle.port.proofs.Ways.{Passed, Continues, Heads, Ways, outcome-ways}
+use Rattle.port.proofs.Ways.{Continues, Heads, outcome-ways}
 use Rattle.port.proofs.KeepsOut.{cases, fresh-sound, halted-sound, data-sound, accept-sound}
 use Rattle.port.proofs.KeepsIn.{packet-sound, row-sound, local-sound, status-sound, remote-sound, released-sound, offered-sound}
 

@@ -3,13 +3,13 @@
 -- Assumes nothing.
 use Prim.Native.Nat.{ℕ, _≤_}
 use mathlib.Core.Path.{_≡_, refl, sym, ap, _∙_, subst}
-use mathlib.Core.Bool.{Bool, true, false}
-use mathlib.Core.List.{List, [], _∷_}
-use mathlib.Core.Logic.{_⊎_, inl, inr, ⊎-elim}
+use mathlib.Core.Bool.{true, false}
+use mathlib.Core.List.{List, []}
+use mathlib.Core.Logic.{inl, inr, ⊎-elim}
 use native.Mathlib.Omega.{arith}
 use lib.ListN.{length}
-use borrow.Author.Tests.{eq-eqb, ne-eqb, eqb-true, le-ltb}
-use Rattle.rules.specs.Choice.{_=ᵇ_, _<ᵇ_, no, pick}
+use borrow.Author.Tests.{ne-eqb, le-ltb}
+use Rattle.rules.specs.Choice.{_=ᵇ_, no}
 use Rattle.rules.proofs.Choice.{decide-all, decide-none, at-true, at-false, pick-all, no-false, or-none, and-left, eq-neb}
 use Rattle.wire.specs.Header.{OFF}
 use Rattle.wire.specs.Setup.{SETUP, CONTROL, readSetup}
@@ -24,7 +24,7 @@ use Rattle.port.specs.Survivors.{Survivors, survivors}
 use Rattle.port.specs.Rows.{Reaction, reacted, initiateClear, checkClear, answerRow, clearing, effected}
 use Rattle.port.specs.Device.{Device, Result, isSound, withState, unsentOf}
 use Rattle.port.specs.Calls.{said, setupRules, asked, setupOutcome, answered, setup, bulkIn}
-use Rattle.port.specs.Step.{in-poll, Call, setup-packet, quiet, setup-of, quietly, soundly, step}
+use Rattle.port.specs.Step.{in-poll, quiet, setup-of, quietly, soundly, step}
 use Rattle.port.specs.Laws.{INITIATE-CLEAR, CHECK-CLEAR-STATUS, success, Reached, Ready, ClearReached, Survive}
 use Rattle.port.specs.declared.types.BulkIn.{BulkIn}
 use Rattle.port.specs.declared.types.State.{State}

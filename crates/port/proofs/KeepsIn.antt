@@ -1,22 +1,21 @@
 -- What a poll, a setup row and the thermostat's calls make of a sound state is sound.
 -- Assumes nothing.
-use Prim.Native.Nat.{ℕ, _+_, _-_, _≤_, _<_, min}
-use mathlib.Core.Path.{_≡_, refl, sym, ap, _∙_, subst}
-use mathlib.Core.Bool.{Bool, true, false, true≢false, false≢true}
+use Prim.Native.Nat.{ℕ, _+_, _-_, _≤_}
+use mathlib.Core.Path.{_≡_, refl, sym, _∙_, subst}
+use mathlib.Core.Bool.{true, false, true≢false, false≢true}
 use mathlib.Core.List.{List, [], _∷_, _++_}
 use mathlib.Core.Logic.{_⊎_, inl, inr, ⊎-elim}
 use native.Mathlib.Omega.{arith}
 use lib.ListN.{length, take, length-append, length-take}
-use borrow.Author.Tests.{eq-eqb, ne-eqb, eqb-true, eqb-false}
-use Rattle.rules.specs.Choice.{_=ᵇ_, _<ᵇ_, no, pick, decide}
+use borrow.Author.Tests.{eq-eqb, ne-eqb, eqb-false}
+use Rattle.rules.specs.Choice.{_=ᵇ_, _<ᵇ_, no}
 use Rattle.rules.specs.Answers.{SUCCESS}
 use Rattle.rules.proofs.Choice.{pick-all, decide-all, at-true, at-false, neb-ne, not-no, none-right}
 use Rattle.wire.specs.Header.{OFF, ON}
-use Rattle.wire.specs.declared.types.Endpoint.{Endpoint}
 use Rattle.wire.specs.declared.types.Endpoint.the-variants.{Out, In}
 use Rattle.wire.specs.declared.types.Row.{Row}
 use Rattle.wire.specs.declared.types.Row.the-variants.{InitiateAbortBulkOut, CheckAbortBulkOutStatus, InitiateAbortBulkIn, CheckAbortBulkInStatus, InitiateClear, CheckClearStatus, GetCapabilities, IndicatorPulse, ReadStatusByte, RenControl, GoToLocal, LocalLockout, ClearFeature, SetFeature, GetStatus}
-use Rattle.port.specs.Parts.{STORE, CLOSED, ASKED, SENDING, OWED, on, isOpenOut, isOpenIn, isOwed, hasReply, isNone, keepsHalt, isClear, portOf, outOf, inOf, packetSize, closedIn, owedIn, withPort, withOut, withIn, withSplit, withRemote, withRen, withStatus, withInHalted, emptyOut, emptyIn, broken, haltedOut, shut}
+use Rattle.port.specs.Parts.{STORE, CLOSED, ASKED, SENDING, OWED, on, isOpenOut, isOpenIn, isOwed, hasReply, isNone, keepsHalt, isClear, portOf, outOf, inOf, closedIn, owedIn, withPort, withOut, withIn, withSplit, withRemote, withRen, withStatus, withInHalted, emptyOut, emptyIn, broken, shut}
 use Rattle.port.specs.Remote.{localNow}
 use Rattle.port.specs.In.{Packet, fixed, header, started, toGo, gone, send, nextPacket}
 use Rattle.port.specs.Rows.{Reaction, answering, reacts, abortRules, outTag, inTag, initiateAbortOut, initiateAbortIn, checkAbortOut, checkAbortIn, initiateClear, checkClear, answerRow, owing, clearing, clearFeatureOut, clearFeatureIn, effected}
@@ -30,7 +29,7 @@ use Rattle.port.specs.declared.types.Split.{Split}
 use Rattle.port.specs.declared.types.Split.the-variants.{None, AbortOut, AbortIn, Clear}
 use Rattle.port.specs.declared.types.Effect.the-variants.{AbortsOut, AbortsIn}
 use Rattle.port.specs.declared.types.State.{State}
-use Rattle.port.proofs.Soundness.{PortSound, OpenOut, RestingOut, OutSound, Idle, AskedIn, SendingIn, Phase, is-closed, is-asked, is-sending, is-owed, phase-kept, InSound, ClearSound, SplitSound, Sound}
+use Rattle.port.proofs.Soundness.{PortSound, OutSound, Idle, SendingIn, Phase, is-closed, is-asked, is-sending, is-owed, phase-kept, InSound, ClearSound, SplitSound, Sound}
 use Rattle.port.proofs.KeepsOut.{broken-sound, halted-sound}
 
 -- ** Bulk-IN

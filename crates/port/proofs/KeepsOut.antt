@@ -1,23 +1,20 @@
 -- What power-on, a halt, data and a header make of a sound state is sound.
 -- Assumes nothing.
-use Prim.Native.Nat.{ℕ, _+_, _-_, _*_, _/_, _≤_, _<_, min}
-use mathlib.Core.Path.{_≡_, refl, sym, ap, _∙_, subst}
-use mathlib.Core.Bool.{Bool, true, false, true≢false, false≢true}
-use mathlib.Core.List.{List, [], _∷_, _++_}
+use Prim.Native.Nat.{ℕ, _+_, _-_, _≤_, _<_, min}
+use mathlib.Core.Path.{_≡_, refl}
+use mathlib.Core.Bool.{Bool, true, false}
+use mathlib.Core.List.{List}
 use mathlib.Core.Logic.{_⊎_, inl, inr, ⊎-elim}
 use native.Mathlib.Omega.{arith}
-use lib.ListN.{length, take, length-append, length-take}
-use borrow.Author.Tests.{eq-eqb, ne-eqb, eqb-true, eqb-false, ltb-true, ltb-false, lt-ltb}
-use Rattle.rules.specs.Choice.{_=ᵇ_, _<ᵇ_, _or_, pick, decide}
-use Rattle.rules.proofs.Choice.{NoneOf, pick-all, decide-all, at-true, at-false, neb-ne, neb-eq, ne-neb, not-no, is-no, none-left, none-right, both-left, not-both, either}
-use Rattle.wire.specs.Header.{HEADER, aligned, OFF, ON, inHeader}
+use lib.ListN.{length}
+use borrow.Author.Tests.{eqb-true, eqb-false, ltb-true, ltb-false, lt-ltb}
+use Rattle.rules.specs.Choice.{_=ᵇ_, _<ᵇ_}
+use Rattle.rules.proofs.Choice.{pick-all, none-right, not-both, either}
+use Rattle.wire.specs.Header.{HEADER, aligned, ON}
 use Rattle.wire.specs.declared.types.Header.{Header}
 use Rattle.wire.specs.declared.types.Header.the-variants.{Message, Request, Trigger}
-use Rattle.wire.specs.declared.types.Read.the-variants.{Good}
-use Rattle.wire.proofs.Lawful.{Reads, Lawful}
-use Rattle.port.specs.Parts.{STORE, FULL-SPEED, HIGH-SPEED, isSize, OWED, on, keepsHalt, outOf, inOf, packetSize, noMessage, closedOut, withOut, fresh, broken, haltedOut}
-use Rattle.port.specs.Out.{wrongLength, moreRules, outOfTurn, dataLength, headerRules, absorbed, opened, tagged, requested, accepted, planned}
-use Rattle.port.specs.declared.types.Port.{Port}
+use Rattle.port.specs.Parts.{STORE, FULL-SPEED, HIGH-SPEED, isSize, OWED, on, keepsHalt, outOf, inOf, packetSize, closedOut, withOut, fresh, broken, haltedOut}
+use Rattle.port.specs.Out.{wrongLength, dataLength, absorbed, opened, tagged, accepted, planned}
 use Rattle.port.specs.declared.types.Setting.{Setting}
 use Rattle.port.specs.declared.types.OutMessage.{OutMessage}
 use Rattle.port.specs.declared.types.BulkOut.{BulkOut}
@@ -25,10 +22,8 @@ use Rattle.port.specs.declared.types.BulkIn.{BulkIn}
 use Rattle.port.specs.declared.types.Split.{Split}
 use Rattle.port.specs.declared.types.Split.the-variants.{None, AbortOut, AbortIn, Clear}
 use Rattle.port.specs.declared.types.State.{State}
-use Rattle.port.specs.declared.types.Plan.{Plan}
-use Rattle.port.specs.declared.types.Outcome.{Outcome}
-use Rattle.port.specs.declared.types.Outcome.the-variants.{Keep, Halt, Data, Accept}
-use Rattle.port.proofs.Soundness.{PortSound, OpenOut, RestingOut, OutSound, Idle, AskedIn, SendingIn, Phase, is-closed, is-asked, is-sending, is-owed, InSound, ClearSound, SplitSound, Sound, sound-of, sound-to}
+use Rattle.port.specs.declared.types.Outcome.the-variants.{Data, Accept}
+use Rattle.port.proofs.Soundness.{RestingOut, OutSound, is-closed, is-asked, SplitSound, Sound}
 use Rattle.port.proofs.Ways.{Passed, Continues, Heads}
 
 pub cases : (t : Bool) → (t ≡ true) ⊎ (t ≡ false)

@@ -1,7 +1,7 @@
 -- The statement is refuted, by computation, of each idle unit: one answer of one row is not the paper's.
 -- Assumes nothing.
 use Prim.Native.Nat.{ℕ, _<_, _/_, _%_}
-use mathlib.Core.Path.{_≡_, refl, ap}
+use mathlib.Core.Path.{_≡_, ap}
 use mathlib.Core.List.{List, []}
 use native.Mathlib.Omega.{arith}
 use lib.ListN.{length, getD}

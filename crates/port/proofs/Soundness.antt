@@ -1,16 +1,15 @@
 -- Soundness as facts, for proofs: each test of `sound` with its meaning, and the way back from the facts to the test.
 -- Assumes nothing.
-use Prim.Native.Nat.{ℕ, _+_, _-_, _≤_, _<_}
-use mathlib.Core.Path.{_≡_, refl, sym, ap, _∙_, subst}
-use mathlib.Core.Bool.{Bool, true, false, true≢false, false≢true}
+use Prim.Native.Nat.{ℕ, _+_, _-_, _≤_}
+use mathlib.Core.Path.{_≡_, refl, _∙_}
+use mathlib.Core.Bool.{Bool, true, false, false≢true}
 use mathlib.Core.List.{List, []}
 use mathlib.Core.Logic.{_⊎_, inl, inr, ⊎-elim}
 use native.Mathlib.Omega.{arith}
-use lib.Dec.{leb, eqb}
 use borrow.Author.Tests.{le-leb, leb-true, eq-eqb, ne-eqb, eqb-true, eqb-false}
 use Rattle.rules.specs.Choice.{_=ᵇ_, _≠ᵇ_, _≤ᵇ_, no, _or_, _and_, pick, _⇒_∣_, first, _&_, all, implies}
 use Rattle.rules.proofs.Choice.{all-of, of-all, at-true, at-false, pick-all, neb-ne, neb-eq, ne-neb, eq-neb, or-left, or-right, no-true, is-no, and-both, both-left, both-right, either}
-use Rattle.wire.specs.Header.{OFF, ON}
+use Rattle.wire.specs.Header.{OFF}
 use Rattle.port.specs.Parts.{STORE, isSize, CLOSED, ASKED, SENDING, OWED, on, isOpenOut, isOwed, portOf, outOf, inOf}
 use Rattle.port.specs.Sound.{isFlag, portSound, openSound, heldSound, restingSound, outSound, unasked, unsending, idle, askedSound, sendingSound, phaseSound, inSound, clearSound, notOwed, abortOutSound, splitSound, sound}
 use Rattle.port.specs.declared.types.Port.{Port}

@@ -1,18 +1,18 @@
 -- The ways that a Bulk-OUT packet can go, with what the tests on each way have shown: what holds of each holds of the outcome.
 -- Assumes nothing.
-use Prim.Native.Nat.{ℕ, _-_, _%_, _≤_, min}
-use mathlib.Core.Path.{_≡_, refl}
+use Prim.Native.Nat.{ℕ, _-_, _≤_, min}
+use mathlib.Core.Path.{_≡_}
 use mathlib.Core.Bool.{true, false}
 use mathlib.Core.List.{List, [], _∷_}
 use lib.ListN.{length}
 use borrow.Author.Tests.{ltb-false}
-use Rattle.rules.specs.Choice.{_=ᵇ_, pick, decide}
+use Rattle.rules.specs.Choice.{_=ᵇ_}
 use Rattle.rules.specs.Answers.{DONE, NOT-IN-FOURS, SHORT-HEADER, BAD-TAG, UNKNOWN-MSGID, RESERVED, WRONG-LENGTH, TOO-LONG, OUT-OF-TURN, MISALIGNED}
 use Rattle.rules.proofs.Choice.{NoneOf, Each, EachLine, pick-all, decide-all, decide-lines, neb-ne, neb-eq, not-no}
 use Rattle.wire.specs.Header.{HEADER, readHeader}
 use Rattle.wire.specs.declared.types.Header.{Header}
 use Rattle.wire.specs.declared.types.Read.{Read}
-use Rattle.wire.specs.declared.types.Read.the-variants.{Good, Fault}
+use Rattle.wire.specs.declared.types.Read.the-variants.{Good}
 use Rattle.wire.proofs.Lawful.{Reads, header-ways}
 use Rattle.port.specs.Parts.{on, isOpenOut, packetSize, outOf, isConfigured}
 use Rattle.port.specs.Out.{moreRules, more, dataLength, headerRules, headerSays, outRules, outcome}

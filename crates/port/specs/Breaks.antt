@@ -3,7 +3,7 @@
 use Prim.Native.Nat.{ℕ}
 use mathlib.Core.Bool.{Bool, true, false}
 use mathlib.Core.List.{List}
-use Rattle.rules.specs.Choice.{_=ᵇ_, _and_, pick}
+use Rattle.rules.specs.Choice.{_=ᵇ_, _and_}
 use Rattle.rules.specs.Answers.{DONE, SUCCESS, Leaves, as-ruled, unchanged, out-halted, leaves}
 use Rattle.wire.specs.Bytes.{byte}
 use Rattle.wire.specs.Setup.{readSetup}

@@ -1,7 +1,7 @@
 -- The nine calls of 01, "The unit", each from a sound unit and its input to all that comes back. That a unit is sound is asked once, before every
 -- call (Step), so that the lists here begin behind 1.
 -- Assumes nothing.
-use Prim.Native.Nat.{ℕ, _+_}
+use Prim.Native.Nat.{ℕ}
 use mathlib.Core.Bool.{Bool}
 use mathlib.Core.List.{List, []}
 use lib.ListN.{length, drop}

@@ -2,7 +2,7 @@
 -- Assumes nothing.
 use Prim.Native.Nat.{ℕ}
 use mathlib.Core.Bool.{Bool}
-use mathlib.Core.List.{List, []}
+use mathlib.Core.List.{List}
 use lib.ListN.{take, drop, replicate}
 use Rattle.rules.specs.Choice.{pick}
 use Rattle.rules.specs.Answers.{DONE, WRONG-SIZE}

@@ -1,15 +1,14 @@
 -- 01, "The idle units a promise must catch".
 -- Assumes nothing.
 use Prim.Native.Nat.{ℕ}
-use mathlib.Core.List.{List, _++_}
+use mathlib.Core.List.{_++_}
 use lib.ListN.{length, take}
 use Rattle.rules.specs.Choice.{_=ᵇ_, pick}
 use Rattle.rules.specs.Answers.{DONE}
 use Rattle.wire.specs.Bytes.{bytes4}
 use Rattle.port.specs.Parts.{outOf, isConfigured}
 use Rattle.port.specs.Answer.{Answer, number}
-use Rattle.port.specs.Device.{Device, Result}
-use Rattle.port.specs.Step.{Call, Stepping, step}
+use Rattle.port.specs.Step.{Stepping, step}
 
 -- one constant answer, whatever it is; "a unit that always refuses" is the one with a number and no bytes
 unfoldable pub constant : Answer → Stepping

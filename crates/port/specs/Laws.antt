@@ -20,7 +20,7 @@ use Rattle.port.specs.declared.types.Setting.{Setting}
 use Rattle.port.specs.declared.types.State.{State}
 use Rattle.port.specs.Device.{Device, Result, isSound, withState, made, powerOn}
 use Rattle.port.specs.Calls.{refused, setupRules, takeRules, offerRules, thermostatRules}
-use Rattle.port.specs.Step.{in-poll, Call, setup-packet, bus-reset, quiet, setup-of, Stepping, after}
+use Rattle.port.specs.Step.{in-poll, Call, bus-reset, quiet, setup-of, Stepping, after}
 use Rattle.port.specs.Live.{live}
 use Rattle.port.specs.Survivors.{survivors}
 use Rattle.port.specs.Breaks.{isBreak}

@@ -3,14 +3,14 @@
 -- Assumes nothing.
 use Prim.Native.Nat.{ℕ, _+_, _-_, _%_, _≤_, min}
 use mathlib.Core.Path.{_≡_}
-use mathlib.Core.Bool.{Bool, true, false}
+use mathlib.Core.Bool.{Bool, false}
 use mathlib.Core.List.{List, []}
 use lib.ListN.{length}
 use Rattle.rules.specs.Choice.{_=ᵇ_, _≠ᵇ_, _<ᵇ_, no, _or_, _and_, pick, _⇒_∣_, decide}
 use Rattle.rules.specs.Answers.{DONE, UNCONFIGURED, WRONG-SIZE, HALTED, WAIT, NOT-IN-FOURS, WRONG-LENGTH, TOO-LONG, OUT-OF-TURN, MISALIGNED, TELLS-TRIGGER, only, done}
 use Rattle.rules.specs.declared.verdict.Verdict.{Verdict}
 use Rattle.wire.specs.Bytes.{zeros}
-use Rattle.wire.specs.Header.{HEADER, FOUR, aligned, OFF, ON, readHeader}
+use Rattle.wire.specs.Header.{HEADER, FOUR, aligned, OFF, readHeader}
 use Rattle.wire.specs.declared.types.Header.{Header}
 use Rattle.wire.specs.declared.types.Header.the-variants.{Message, Request, Trigger}
 use Rattle.wire.specs.declared.types.Read.{Read}

@@ -12,7 +12,6 @@ use Rattle.port.specs.declared.types.BulkOut.{BulkOut}
 use Rattle.port.specs.declared.types.InReply.{InReply}
 use Rattle.port.specs.declared.types.InTransfer.{InTransfer}
 use Rattle.port.specs.declared.types.BulkIn.{BulkIn}
-use Rattle.port.specs.declared.types.Small.{Small}
 use Rattle.port.specs.declared.types.Split.{Split}
 use Rattle.port.specs.declared.types.Split.the-variants.{None, AbortOut, AbortIn, Clear}
 use Rattle.port.specs.declared.types.Remote.{Remote}

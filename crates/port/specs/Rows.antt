@@ -3,7 +3,7 @@
 use Prim.Native.Nat.{ℕ, _+_, _*_, _/_, _%_}
 use mathlib.Core.Bool.{Bool}
 use mathlib.Core.List.{List, [], _∷_, _++_}
-use Rattle.rules.specs.Choice.{_=ᵇ_, _≠ᵇ_, no, _or_, pick, _⇒_∣_, decide}
+use Rattle.rules.specs.Choice.{_≠ᵇ_, no, pick, _⇒_∣_, decide}
 use Rattle.rules.specs.Answers.{DONE, SUCCESS, PENDING, FAILED, TRANSFER-NOT-IN-PROGRESS, SPLIT-NOT-IN-PROGRESS, SPLIT-IN-PROGRESS, TELLS-PULSE, done}
 use Rattle.wire.specs.Bytes.{bytes4}
 use Rattle.wire.specs.Header.{D0, OFF, ON}

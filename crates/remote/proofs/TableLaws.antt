@@ -3,7 +3,6 @@
 use Prim.Native.Nat.{ℕ}
 use mathlib.Core.Path.{_≡_, refl, sym, ap, _∙_}
 use borrow.Author.Tests.{eq-eqb, ne-eqb}
-use Rattle.rules.specs.Choice.{pick}
 use Rattle.rules.proofs.Choice.{pick-true, pick-false}
 use Rattle.port.specs.Remote.{withRenOn}
 use Rattle.port.specs.declared.types.Remote.{Remote}

@@ -18,7 +18,7 @@ use Rattle.flat.specs.Flat.{isUnit, opened, shut}
 use Rattle.flat.proofs.Again.{opened-shut}
 use Rattle.flat.proofs.Parted.{opened-stored}
 use Rattle.flat.proofs.Narrow.{fits, unit-again}
-use Rattle.flatcalls.specs.Promise.{Lent, Left, shutOf, keptOf, onBytes, answerOf}
+use Rattle.flatcalls.specs.Promise.{Lent, Left, shutOf, onBytes, answerOf}
 use Rattle.flatcalls.specs.declared.types.Answer.{Answer}
 use Rattle.flatcalls.proofs.Called.{on-unit, on-none, again}
 use Rattle.tewennos.specs.Run.{runBytes, afterBytes, Made, none, then}

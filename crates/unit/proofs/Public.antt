@@ -2,16 +2,15 @@
 -- (`..-unique`), and each is the step, unit, verdict, bytes and lent buffer (`..-step`).
 -- Assumes nothing.
 use Prim.Native.Nat.{ℕ}
-use mathlib.Core.Path.{_≡_, refl, sym, ap, _∙_}
+use mathlib.Core.Path.{_≡_, sym, ap, _∙_}
 use mathlib.Core.List.{List, []}
 use lib.ListN.{length, take, drop}
 use lib.Seq.{take-at, drop-at}
-use Rattle.wire.specs.Bytes.{into}
 use Rattle.port.specs.Device.{Result, powerOn}
 use Rattle.port.specs.Step.{Call, step}
 use Rattle.port.specs.declared.types.Setting.{Setting}
 use Rattle.port.proofs.Silent.{power-silent, Mute, silent}
-use Rattle.unit.specs.Promise.{deviceOf, doneOf, toldOf, Tells, IsStep, IsStepInto}
+use Rattle.unit.specs.Promise.{deviceOf, doneOf, Tells, IsStep, IsStepInto}
 use Rattle.unit.specs.declared.types.Unit.{Unit}
 use Rattle.unit.specs.declared.types.Done.{Done}
 use Rattle.unit.specs.declared.types.Told.{Told}

@@ -7,7 +7,6 @@ use lib.ListN.{length}
 use Rattle.rules.specs.Choice.{_=ᵇ_, _≠ᵇ_, _<ᵇ_, no, _or_, pick, _⇒_∣_, decide}
 use Rattle.rules.specs.Answers.{DONE, NOT-IN-FOURS, SHORT-HEADER, BAD-TAG, UNKNOWN-MSGID, RESERVED}
 use Rattle.wire.specs.Bytes.{byte, number4, bytes4, zeros}
-use Rattle.wire.specs.declared.types.Header.{Header}
 use Rattle.wire.specs.declared.types.Header.the-variants.{Message, Request, Trigger}
 use Rattle.wire.specs.declared.types.Read.{Read}
 use Rattle.wire.specs.declared.types.Read.the-variants.{Good, Fault}

@@ -2,7 +2,7 @@
 -- Assumes nothing.
 use Prim.Native.Nat.{ℕ}
 use mathlib.Core.Bool.{Bool}
-use mathlib.Core.List.{List, [], _∷_}
+use mathlib.Core.List.{List, []}
 use Rattle.rules.specs.Choice.{_=ᵇ_, _≤ᵇ_, pick, _⇒_∣_, first, _&_, all}
 use Rattle.wire.specs.Bytes.{byte, number2}
 use Rattle.wire.specs.declared.types.Endpoint.{Endpoint}

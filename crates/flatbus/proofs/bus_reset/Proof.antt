@@ -12,4 +12,6 @@ bus-reset-spec =
     (λ c κs. search needs) (λ c κs. search needs)
     (λ c. bus-refused (c .before .before .before .before .args .u .now) _ (c .before .before .bus-number .ensures) [] _ bus-reset (c .before .if1 .taken) (c .numbered .ensures))
     (λ c κs. search needs) (λ c κs. search needs) (λ c κs. search needs)
-    (λ c. reset-done (c .before .before .before .before .before .before .before .before .before .args .u .now) _ (c .before .before .before .before .before .before .before .bus-number .ensures) _ _ (c .before .before .before .before .before .before .if1 .left) (rw (c .before .before .before .port-of .ensures) at (c .before .make .ensures)) (c .numbered2 .ensures)))
+    (λ c.
+    let c6 = c .before .before .before .before .before .before in
+    reset-done (c6 .before .before .before .args .u .now) _ (c6 .before .bus-number .ensures) _ _ (c6 .if1 .left) (rw (c .before .before .before .port-of .ensures) at (c .before .make .ensures)) (c .numbered2 .ensures)))

@@ -1,6 +1,6 @@
 use Rattle.flatbus.proofs.Ways.{powered, unpowered}
 use borrow.Author.Needs.{needs}
-use mathlib.Core.Path.{_≡_, sym, _∙_}
+use mathlib.Core.Path.{sym, _∙_}
 use Rattle.flatbus.proofs.power_on.Statement.{statement}
 use Rattle.flatbus.proofs.power_on.Tie as tie
 

@@ -12,4 +12,7 @@ suspend-spec =
     (λ c κs. search needs) (λ c κs. search needs)
     (λ c. bus-refused (c .before .before .before .before .args .u .now) _ (c .before .before .bus-number .ensures) [] _ (quiet bus-suspend) (c .before .if1 .taken) (c .numbered .ensures))
     (λ c κs. search needs) (λ c κs. search needs) (λ c κs. search needs) (λ c κs. search needs) (λ c κs. search needs)
-    (λ c. suspend-done (c .before .before .before .before .before .before .before .before .before .before .before .before .args .u .now) _ (c .before .before .before .before .before .before .before .before .before .before .bus-number .ensures) _ _ (c .before .before .before .before .before .before .before .before .before .if1 .left) _ (rw (c .before .before .before .before .with-ren .ensures, c .before .before .before .before .before .before .port-of .ensures) at (c .before .before .before .put-port .ensures)) (c .before .put-remote .ensures) (c .numbered2 .ensures)))
+    (λ c.
+    let c3 = c .before .before .before in
+    let c9 = c3 .before .before .before .before .before .before in
+    suspend-done (c9 .before .before .before .args .u .now) _ (c9 .before .bus-number .ensures) _ _ (c9 .if1 .left) _ (rw (c3 .before .with-ren .ensures, c3 .before .before .before .port-of .ensures) at (c3 .put-port .ensures)) (c .before .put-remote .ensures) (c .numbered2 .ensures)))

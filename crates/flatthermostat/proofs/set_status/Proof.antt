@@ -1,7 +1,6 @@
 use Rattle.flatthermostat.proofs.Ways.{status-refused, status-done}
 use borrow.Author.Needs.{needs}
 use mathlib.Core.List.{[]}
-use native.Mathlib.Omega.{arith}
 use Rattle.flatthermostat.proofs.set_status.Statement.{statement}
 use Rattle.flatthermostat.proofs.set_status.Tie as tie
 
@@ -12,4 +11,6 @@ set-status-spec =
     (λ c κs. search needs) (λ c κs. search needs)
     (λ c. status-refused (c .before .before .before .before .args .u .now) _ [] _ (c .before .before .thermostat-number .ensures) _ (c .before .if1 .taken) (c .numbered .ensures))
     (λ c κs. search needs) (λ c κs. search needs) (λ c κs. search needs) (λ c κs. search needs)
-    (λ c. status-done (c .before .before .before .before .before .before .before .before .before .before .args .u .now) _ _ _ (c .before .before .before .before .before .before .before .before .thermostat-number .ensures) _ (c .before .before .before .before .before .before .before .if1 .left) (rw (c .before .before .with-status .ensures, c .before .before .before .before .port-of .ensures) at (c .before .put-port .ensures)) (c .numbered2 .ensures)))
+    (λ c.
+    let c7 = c .before .before .before .before .before .before .before in
+    status-done (c7 .before .before .before .args .u .now) _ _ _ (c7 .before .thermostat-number .ensures) _ (c7 .if1 .left) (rw (c .before .before .with-status .ensures, c .before .before .before .before .port-of .ensures) at (c .before .put-port .ensures)) (c .numbered2 .ensures)))

@@ -1,7 +1,7 @@
 use Rattle.port.specs.Given.{givenOf}
 use Rattle.rules.proofs.Choice.{at-true, at-false}
 use borrow.Author.Needs.{needs}
-use mathlib.Core.Path.{_≡_, sym, ap, _∙_, refl}
+use mathlib.Core.Path.{sym, ap, _∙_}
 use Rattle.calls.proofs.bus.suspended.Statement.{statement}
 use Rattle.calls.proofs.bus.suspended.Tie as tie
 

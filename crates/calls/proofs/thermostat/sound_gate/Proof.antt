@@ -1,6 +1,6 @@
 use Rattle.rules.proofs.Choice.{pick-true, pick-false}
 use borrow.Author.Needs.{needs}
-use mathlib.Core.Path.{_≡_, sym, _∙_, refl}
+use mathlib.Core.Path.{sym, _∙_, refl}
 use Rattle.calls.proofs.thermostat.sound_gate.Statement.{statement}
 use Rattle.calls.proofs.thermostat.sound_gate.Tie as tie
 

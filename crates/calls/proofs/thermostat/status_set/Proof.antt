@@ -1,7 +1,7 @@
 use Rattle.calls.proofs.CallLaws.{status-refused, status-done}
 use Rattle.port.specs.Given.{givenOf}
 use borrow.Author.Needs.{needs}
-use mathlib.Core.Path.{_≡_, ap, _∙_}
+use mathlib.Core.Path.{ap, _∙_}
 use Rattle.calls.proofs.thermostat.status_set.Statement.{statement}
 use Rattle.calls.proofs.thermostat.status_set.Tie as tie
 

@@ -2,7 +2,7 @@ use Rattle.control.proofs.Sides.{owed-ends, open-drops, closed-keeps}
 use Rattle.rules.proofs.Choice.{ne-neb, eq-neb}
 use borrow.Author.Needs.{needs}
 use borrow.Author.Tests.{eq-eqb, ne-eqb}
-use mathlib.Core.Path.{_≡_, _∙_}
+use mathlib.Core.Path.{_∙_}
 use Rattle.control.proofs.effects.clear_feature_in.Statement.{statement}
 use Rattle.control.proofs.effects.clear_feature_in.Tie as tie
 

@@ -1,6 +1,6 @@
 use Rattle.control.proofs.Sides.{halt-stays, halt-ends}
 use borrow.Author.Needs.{needs}
-use mathlib.Core.Path.{_≡_, sym, _∙_}
+use mathlib.Core.Path.{sym, _∙_}
 use Rattle.control.proofs.effects.clear_feature_out.Statement.{statement}
 use Rattle.control.proofs.effects.clear_feature_out.Tie as tie
 

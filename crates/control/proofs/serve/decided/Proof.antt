@@ -1,6 +1,6 @@
 use Rattle.rules.proofs.Choice.{pick-true, pick-false}
 use borrow.Author.Needs.{needs}
-use mathlib.Core.Path.{_≡_, sym, _∙_, refl}
+use mathlib.Core.Path.{sym, _∙_, refl}
 use Rattle.control.proofs.serve.decided.Statement.{statement}
 use Rattle.control.proofs.serve.decided.Tie as tie
 

@@ -1,7 +1,7 @@
 use Rattle.control.proofs.Serving.{row-short, whole, copied}
 use Rattle.port.specs.Rows.{answerRow}
 use borrow.Author.Needs.{needs}
-use mathlib.Core.Path.{_≡_, _∙_, refl}
+use mathlib.Core.Path.{refl}
 use native.Mathlib.Omega.{arith}
 use Rattle.control.proofs.serve.reply.Statement.{statement}
 use Rattle.control.proofs.serve.reply.Tie as tie

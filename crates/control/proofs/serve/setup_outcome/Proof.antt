@@ -1,6 +1,5 @@
 use Rattle.control.proofs.Serving.{setup-denied, setup-asked, setup-long}
 use borrow.Author.Needs.{needs}
-use mathlib.Core.Path.{_≡_, sym, ap, _∙_}
 use native.Mathlib.Omega.{arith}
 use Rattle.control.proofs.serve.setup_outcome.Statement.{statement}
 use Rattle.control.proofs.serve.setup_outcome.Tie as tie

@@ -27,20 +27,18 @@ Inv-loop u₀ n i₀ u i = (i ≤ n) × (u ≡ paste u₀ 0 (blank n) i) × (len
 abbrev μ-loop : tie.MeasureT-loop
 μ-loop u₀ n i₀ u i = n - i
 
-loop-again : tie.Need-loop-again Inv-loop μ-loop
-loop-again c =
-    let a = c .before .before .args in
-    let l = c .before .loop in
-    (omega arith, next (a .u .now) (a .n) (l .i) (l .u) (l .inv .1) (omega arith) (simp length-replicate (omega arith)), simp length-set (l .inv .2))
-
-returns : tie.Need-returns Inv-loop μ-loop
-returns c =
-    let a = c .before .before .args in
-    let e : c .before .loop .i ≡ a .n = omega arith in
-    c .before .loop .inv .1 ∙ ap (paste (a .u .now) 0 (blank (a .n))) e
-
 pub wipe-spec : {M : Type 1} → statement M
 wipe-spec =
     tie.close
-    (tie.spec Inv-loop μ-loop (λ c. (omega arith, paste-zero (c .args .u .now) 0 (blank (c .args .n)), refl)) (λ c. omega arith) (λ c. omega arith)
-    (λ c. omega arith) loop-again (λ c. c .before .loop .inv .2) returns)
+    (tie.spec
+    Inv-loop μ-loop (λ c. (omega arith, paste-zero (c .args .u .now) 0 (blank (c .args .n)), refl)) (λ c. omega arith) (λ c. omega arith)
+    (λ c. omega arith)
+    (λ c.
+    let a = c .before .before .args in
+    let l = c .before .loop in
+    (omega arith, next (a .u .now) (a .n) (l .i) (l .u) (l .inv .1) (omega arith) (simp length-replicate (omega arith)), simp length-set (l .inv .2)))
+    (λ c. c .before .loop .inv .2)
+    (λ c.
+    let a = c .before .before .args in
+    let e : c .before .loop .i ≡ a .n = omega arith in
+    c .before .loop .inv .1 ∙ ap (paste (a .u .now) 0 (blank (a .n))) e))

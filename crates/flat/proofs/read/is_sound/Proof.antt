@@ -1,6 +1,6 @@
 use Rattle.rules.specs.Choice.{_and_}
 use borrow.Author.Needs.{needs}
-use mathlib.Core.Path.{_≡_, refl, sym, _∙_}
+use mathlib.Core.Path.{refl, sym, _∙_}
 use native.Mathlib.Omega.{arith}
 use Rattle.flat.proofs.read.is_sound.Statement.{statement}
 use Rattle.flat.proofs.read.is_sound.Tie as tie

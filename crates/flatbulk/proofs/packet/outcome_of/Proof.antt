@@ -1,6 +1,6 @@
-use Rattle.rules.proofs.Choice.{pick-true, pick-false}
+use Rattle.flatcalls.proofs.Called.{on-sound, on-other}
 use borrow.Author.Needs.{needs}
-use mathlib.Core.Path.{_≡_, refl, sym, _∙_}
+use mathlib.Core.Path.{refl}
 use native.Mathlib.Omega.{arith}
 use Rattle.flatbulk.proofs.packet.outcome_of.Statement.{statement}
 use Rattle.flatbulk.proofs.packet.outcome_of.Tie as tie
@@ -10,5 +10,5 @@ outcome-of-spec =
     tie.close
     (tie.spec
     (λ c κs. search needs) (λ c κs. search needs) (λ c κs. search needs)
-    (λ c. record { is = pick-true _ _ _ _ (sym (c .before .before .before .before .is-sound .ensures .0) ∙ c .before .before .before .if1 .taken) (rw (c .before .state-of .ensures) at (c .outcome .ensures)); lent = record { long = omega arith; small = c .before .before .before .before .is-sound .ensures .1 } })
-    (λ c. record { is = pick-false _ _ _ _ (sym (c .before .is-sound .ensures .0) ∙ c .if1 .left) refl; lent = record { long = omega arith; small = c .before .is-sound .ensures .1 } }))
+    (λ c. on-sound (c .before .before .before .before .is-sound .ensures) (omega arith) (c .before .before .before .if1 .taken) (rw (c .before .state-of .ensures) at (c .outcome .ensures)))
+    (λ c. on-other (c .before .is-sound .ensures) (omega arith) (c .if1 .left) refl))

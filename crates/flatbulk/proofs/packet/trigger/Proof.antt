@@ -1,6 +1,6 @@
 use Rattle.flatbulk.proofs.Ways.{trigger-done}
 use borrow.Author.Needs.{needs}
-use mathlib.Core.Path.{_≡_, refl}
+use mathlib.Core.Path.{refl}
 use Rattle.flatbulk.proofs.packet.trigger.Statement.{statement}
 use Rattle.flatbulk.proofs.packet.trigger.Tie as tie
 

@@ -1,6 +1,5 @@
 use Rattle.flatcalls.proofs.Made.{made-of}
 use borrow.Author.Needs.{needs}
-use mathlib.Core.Path.{_≡_}
 use native.Mathlib.Omega.{arith}
 use Rattle.flatcalls.proofs.make.make.Statement.{statement}
 use Rattle.flatcalls.proofs.make.make.Tie as tie
@@ -10,4 +9,6 @@ make-spec =
     tie.close
     (tie.spec
     (λ c κs. search needs) (λ c κs. search needs) (λ c κs. search needs)
-    (λ c. made-of (c .before .before .before .before .before .args .u .now) (omega (arith, c .before .before .before .before .wipe-arg .given)) (c .before .before .before .before .before .args .setting) (c .before .before .before .before .before .args .configured) _ _ (c .before .before .before .wipe .ensures) (rw (c .before .fresh .ensures) at (c .put-state .ensures))))
+    (λ c.
+    let c4 = c .before .before .before .before in
+    made-of (c4 .before .args .u .now) (omega (arith, c4 .wipe-arg .given)) (c4 .before .args .setting) (c4 .before .args .configured) _ _ (c .before .before .before .wipe .ensures) (rw (c .before .fresh .ensures) at (c .put-state .ensures))))

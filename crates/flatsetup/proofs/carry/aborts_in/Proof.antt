@@ -8,4 +8,7 @@ aborts-in-spec =
     tie.close
     (tie.spec
     (λ c κs. search needs) (λ c κs. search needs) (λ c κs. search needs) (λ c κs. search needs) (λ c. search needs)
-    (λ c. let o = c .before .before .before .before .before .before .before .before .before .in-of .ensures in aborts-in (c .before .before .before .before .before .before .before .before .before .before .before .before .args .u .now) _ _ (rw (c .before .before .before .before .before .before .before .owing .ensures, o) at (c .before .before .before .before .before .before .put-in .ensures)) (rw o at (c .before .before .put-split .ensures))))
+    (λ c.
+    let c6 = c .before .before .before .before .before .before in
+    let o = c6 .before .before .before .in-of .ensures in
+    aborts-in (c6 .before .before .before .before .before .before .args .u .now) _ _ (rw (c6 .before .owing .ensures, o) at (c6 .put-in .ensures)) (rw o at (c .before .before .put-split .ensures))))

@@ -8,4 +8,7 @@ aborts-out-spec =
     tie.close
     (tie.spec
     (λ c κs. search needs) (λ c κs. search needs) (λ c κs. search needs) (λ c κs. search needs) (λ c. search needs)
-    (λ c. let o = c .before .before .before .before .before .before .before .before .before .out-of .ensures in aborts-out (c .before .before .before .before .before .before .before .before .before .before .before .before .args .u .now) _ _ (rw (c .before .before .before .before .before .before .before .broken .ensures, o) at (c .before .before .before .before .before .before .put-out .ensures)) (rw o at (c .before .before .put-split .ensures))))
+    (λ c.
+    let c6 = c .before .before .before .before .before .before in
+    let o = c6 .before .before .before .out-of .ensures in
+    aborts-out (c6 .before .before .before .before .before .before .args .u .now) _ _ (rw (c6 .before .broken .ensures, o) at (c6 .put-out .ensures)) (rw o at (c .before .before .put-split .ensures))))

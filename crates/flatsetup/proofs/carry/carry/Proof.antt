@@ -1,6 +1,6 @@
 use Rattle.flatsetup.proofs.Effects.{stays, ends-split}
 use borrow.Author.Needs.{needs}
-use mathlib.Core.Path.{_≡_, refl}
+use mathlib.Core.Path.{refl}
 use Rattle.flatsetup.proofs.carry.carry.Statement.{statement}
 use Rattle.flatsetup.proofs.carry.carry.Tie as tie
 

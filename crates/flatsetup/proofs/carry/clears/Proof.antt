@@ -9,4 +9,7 @@ clears-spec =
     (tie.spec
     (λ c κs. search needs) (λ c κs. search needs) (λ c κs. search needs) (λ c κs. search needs) (λ c κs. search needs) (λ c κs. search needs)
     (λ c. search needs)
-    (λ c. clears (c .before .before .before .before .before .before .before .before .before .before .before .before .before .before .before .before .before .args .u .now) _ _ _ (rw (c .before .before .before .before .before .before .before .before .before .before .before .before .empty-out .ensures) at (c .before .before .before .before .before .before .before .before .before .before .before .put-out .ensures)) (rw (c .before .before .before .before .before .before .before .cleared-in .ensures, c .before .before .before .before .before .before .before .before .before .before .before .before .before .before .in-of .ensures) at (c .before .before .before .before .before .before .put-in .ensures)) (c .before .before .put-split .ensures)))
+    (λ c.
+    let c6 = c .before .before .before .before .before .before in
+    let c11 = c6 .before .before .before .before .before in
+    clears (c11 .before .before .before .before .before .before .args .u .now) _ _ _ (rw (c11 .before .empty-out .ensures) at (c11 .put-out .ensures)) (rw (c6 .before .cleared-in .ensures, c11 .before .before .before .in-of .ensures) at (c6 .put-in .ensures)) (c .before .before .put-split .ensures)))

@@ -9,6 +9,10 @@ clears-halt-spec =
     (tie.spec
     (λ c. search needs) (λ c κs. search needs) (λ c κs. search needs) (λ c κs. search needs) (λ c κs. search needs) (λ c. search needs)
     (λ c κs. search needs) (λ c κs. search needs) (λ c κs. search needs) (λ c. search needs)
-    (λ c. rw (c .before .before .before .before .before .before .before .before .before .enum-told .given .1) (clears-out (c .before .before .before .before .before .before .before .before .before .before .before .before .args .u .now) _ (rw (c .before .before .before .clear-feature-out .ensures, c .before .before .before .before .before .split-of .ensures, c .before .before .before .before .before .before .before .out-of .ensures) at (c .before .before .put-out .ensures))))
+    (λ c.
+    let c5 = c .before .before .before .before .before in
+    rw (c5 .before .before .before .before .enum-told .given .1) (clears-out (c5 .before .before .before .before .before .before .before .args .u .now) _ (rw (c .before .before .before .clear-feature-out .ensures, c5 .split-of .ensures, c5 .before .before .out-of .ensures) at (c .before .before .put-out .ensures))))
     (λ c. search needs)
-    (λ c. rw (c .before .before .before .before .before .before .before .enum-told2 .given .1) (clears-in (c .before .before .before .before .before .before .before .before .before .before .args .u .now) _ (rw (c .before .before .before .clear-feature-in .ensures, c .before .before .before .before .before .in-of .ensures) at (c .before .before .put-in .ensures)))))
+    (λ c.
+    let c5 = c .before .before .before .before .before in
+    rw (c5 .before .before .enum-told2 .given .1) (clears-in (c5 .before .before .before .before .before .args .u .now) _ (rw (c .before .before .before .clear-feature-in .ensures, c5 .in-of .ensures) at (c .before .before .put-in .ensures)))))

@@ -2,7 +2,7 @@ use Rattle.flatsetup.proofs.Effects.{sets-remote}
 use Rattle.port.specs.Rows.{effected}
 use Rattle.port.specs.declared.types.Effect.the-variants.{GoesToLocal}
 use borrow.Author.Needs.{needs}
-use mathlib.Core.Path.{_≡_, refl}
+use mathlib.Core.Path.{refl}
 use Rattle.flatsetup.proofs.carry.goes_to_local.Statement.{statement}
 use Rattle.flatsetup.proofs.carry.goes_to_local.Tie as tie
 

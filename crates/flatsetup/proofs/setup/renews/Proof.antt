@@ -1,7 +1,7 @@
 use Rattle.flatcalls.proofs.Called.{port-is}
 use Rattle.flatsetup.proofs.Ways.{renewed}
 use borrow.Author.Needs.{needs}
-use mathlib.Core.Path.{_≡_, refl, _∙_}
+use mathlib.Core.Path.{refl, _∙_}
 use Rattle.flatsetup.proofs.setup.renews.Statement.{statement}
 use Rattle.flatsetup.proofs.setup.renews.Tie as tie
 

@@ -13,4 +13,7 @@ offer-plan-spec =
     (λ c. (rw (c .only .ensures) (offer-refused _ _ _ (c .before .before .offer-gate .ensures) (c .before .if1 .taken)), omega arith, omega arith))
     (λ c. let a = c .before .before .before .args in let e : a .n ≤ 1024 = offer-fits (a .st) _ (a .n) (c .before .before .offer-gate .ensures) (c .before .if1 .left) in omega arith)
     (λ c κs. search needs) (λ c κs. search needs) (λ c κs. search needs)
-    (λ c. let a = c .before .before .before .before .before .before .args in (rw (c .only2 .ensures, c .before .with-in .ensures, c .before .before .offered .ensures) (offer-done (a .st) _ (a .n) (c .before .before .before .before .before .offer-gate .ensures) (c .before .before .before .before .if1 .left)), omega arith, offer-fits (a .st) _ (a .n) (c .before .before .before .before .before .offer-gate .ensures) (c .before .before .before .before .if1 .left))))
+    (λ c.
+    let c4 = c .before .before .before .before in
+    let a = c4 .before .before .args in
+    (rw (c .only2 .ensures, c .before .with-in .ensures, c .before .before .offered .ensures) (offer-done (a .st) _ (a .n) (c4 .before .offer-gate .ensures) (c4 .if1 .left)), omega arith, offer-fits (a .st) _ (a .n) (c4 .before .offer-gate .ensures) (c4 .if1 .left))))

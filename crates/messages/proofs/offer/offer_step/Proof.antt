@@ -1,7 +1,7 @@
 use Rattle.rules.proofs.Choice.{pick-true, pick-false}
 use borrow.Author.Needs.{needs}
 use lib.Seq.{paste-zero}
-use mathlib.Core.Path.{_≡_, sym, _∙_}
+use mathlib.Core.Path.{sym, _∙_}
 use Rattle.messages.proofs.offer.offer_step.Statement.{statement}
 use Rattle.messages.proofs.offer.offer_step.Tie as tie
 

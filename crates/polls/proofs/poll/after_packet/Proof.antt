@@ -1,9 +1,7 @@
 use Rattle.polls.specs.Poll.{afterPacket}
-use Rattle.rules.proofs.Choice.{picks}
 use Rattle.rules.specs.Choice.{pick}
 use borrow.Author.Needs.{needs}
 use borrow.Author.Tests.{lt-ltb, le-ltb}
-use mathlib.Core.Path.{_≡_, refl, ap}
 use Rattle.polls.proofs.poll.after_packet.Statement.{statement}
 use Rattle.polls.proofs.poll.after_packet.Tie as tie
 

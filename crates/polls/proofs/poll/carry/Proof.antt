@@ -9,4 +9,6 @@ carry-spec =
     (tie.spec
     (λ c. search needs) (λ c κs. search needs) (λ c κs. search needs) (λ c κs. search needs) (λ c κs. search needs) (λ c κs. search needs)
     (λ c. search needs)
-    (λ c. rw (c .after-packet .ensures, c .before .before .before .copy-in .ensures, c .before .before .before .before .widened2 .ensures .0, c .before .before .before .before .before .before .least .ensures, c .before .before .before .before .before .before .before .widened .ensures .0) (refl, refl)))
+    (λ c.
+    let c3 = c .before .before .before in
+    rw (c .after-packet .ensures, c3 .copy-in .ensures, c3 .before .widened2 .ensures .0, c3 .before .before .before .least .ensures, c3 .before .before .before .before .widened .ensures .0) (refl, refl)))

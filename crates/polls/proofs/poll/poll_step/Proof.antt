@@ -1,6 +1,6 @@
 use Rattle.state.proofs.Handed.{sound-hands, unsound-hands}
 use borrow.Author.Needs.{needs}
-use mathlib.Core.Path.{_≡_, sym, _∙_}
+use mathlib.Core.Path.{sym, _∙_}
 use Rattle.polls.proofs.poll.poll_step.Statement.{statement}
 use Rattle.polls.proofs.poll.poll_step.Tie as tie
 

@@ -7,8 +7,6 @@ use Rattle.port.specs.In.{upTo}
 use Rattle.polls.proofs.PollLaws.{up-step, up-stop, up-end}
 use Rattle.polls.proofs.poll.up_to.Statement.{statement}
 use Rattle.polls.proofs.poll.up_to.Tie as tie
-use Rattle.polls.proofs.poll.up_to.Reads as reads
-use Rattle.polls.proofs.poll.up_to.Lts as lts
 
 abbrev Inv-loop : tie.InvT-loop
 Inv-loop s from n char i₀ i = (i ≤ n) × (upTo char (take n (drop from s)) ≡ i + upTo char (drop i (take n (drop from s))))
@@ -16,58 +14,25 @@ Inv-loop s from n char i₀ i = (i ≤ n) × (upTo char (take n (drop from s)) �
 abbrev μ-loop : tie.MeasureT-loop
 μ-loop s from n char i₀ i = n - i
 
-loop-holds : tie.Need-loop-holds Inv-loop μ-loop
-loop-holds c = (omega arith, omega arith)
-
-add-if1 : tie.Need-add-if1 Inv-loop μ-loop
-add-if1 c = omega arith
-
-shared-slice-read-if1 : tie.Need-shared-slice-read-if1 Inv-loop μ-loop
-shared-slice-read-if1 c = omega arith
-
-add-result : tie.Need-add-result Inv-loop μ-loop
-add-result c = omega arith
-
-returns : tie.Need-returns Inv-loop μ-loop
-returns c =
-    let a = c .before .before .before .before .args in
-    let l = c .before .before .before .loop in
-    let h = up-stop (a .char) (a .s .now) (a .from) (a .n) (l .i) (omega arith) (omega arith) (c .if1 .taken) in
-    omega (arith, l .inv .1)
-
-add-i : tie.Need-add-i Inv-loop μ-loop
-add-i c = omega arith
-
-loop-less : tie.Need-loop-less Inv-loop μ-loop
-loop-less c = omega arith
-
-loop-again : tie.Need-loop-again Inv-loop μ-loop
-loop-again c =
-    let a = c .before .before .before .before .args in
-    let l = c .before .before .before .loop in
-    let h = up-step (a .char) (a .s .now) (a .from) (a .n) (l .i) (omega arith) (omega arith) (c .if1 .left) in
-    (omega arith, omega (arith, l .inv .1))
-
-returns-2 : tie.Need-returns-2 Inv-loop μ-loop
-returns-2 c =
-    let a = c .before .before .args in
-    let l = c .before .loop in
-    let e : l .i ≡ a .n = omega arith in
-    let h = up-end (a .char) (a .s .now) (a .from) (a .n) (l .i) (omega arith) e in
-    omega (arith, l .inv .1)
-
 pub up-to-spec : {M : Type 1} → statement M
 up-to-spec =
     tie.close
     (tie.spec
-    Inv-loop
-    μ-loop
-    loop-holds
-    add-if1
-    shared-slice-read-if1
-    add-result
-    returns
-    add-i
-    loop-less
-    loop-again
-    returns-2)
+    Inv-loop μ-loop (λ c. (omega arith, omega arith)) (λ c. omega arith) (λ c. omega arith) (λ c. omega arith)
+    (λ c.
+    let a = c .before .before .before .before .args in
+    let l = c .before .before .before .loop in
+    let h = up-stop (a .char) (a .s .now) (a .from) (a .n) (l .i) (omega arith) (omega arith) (c .if1 .taken) in
+    omega (arith, l .inv .1))
+    (λ c. omega arith) (λ c. omega arith)
+    (λ c.
+    let a = c .before .before .before .before .args in
+    let l = c .before .before .before .loop in
+    let h = up-step (a .char) (a .s .now) (a .from) (a .n) (l .i) (omega arith) (omega arith) (c .if1 .left) in
+    (omega arith, omega (arith, l .inv .1)))
+    (λ c.
+    let a = c .before .before .args in
+    let l = c .before .loop in
+    let e : l .i ≡ a .n = omega arith in
+    let h = up-end (a .char) (a .s .now) (a .from) (a .n) (l .i) (omega arith) e in
+    omega (arith, l .inv .1)))

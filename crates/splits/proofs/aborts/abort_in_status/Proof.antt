@@ -2,7 +2,7 @@ use Rattle.splits.proofs.SplitLaws.{abort-pending, abort-ended}
 use Rattle.splits.specs.Control.{controlOf}
 use borrow.Author.Needs.{needs}
 use borrow.Author.Tests.{eq-eqb, ne-eqb}
-use mathlib.Core.Path.{_≡_, sym, ap, _∙_}
+use mathlib.Core.Path.{ap, _∙_}
 use Rattle.splits.proofs.aborts.abort_in_status.Statement.{statement}
 use Rattle.splits.proofs.aborts.abort_in_status.Tie as tie
 

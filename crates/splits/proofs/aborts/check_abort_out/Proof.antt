@@ -1,7 +1,5 @@
 use Rattle.port.specs.Rows.{checkAbortOut}
-use Rattle.rules.proofs.Choice.{picks}
 use borrow.Author.Needs.{needs}
-use mathlib.Core.Path.{_≡_, refl, ap, _∙_}
 use Rattle.splits.proofs.aborts.check_abort_out.Statement.{statement}
 use Rattle.splits.proofs.aborts.check_abort_out.Tie as tie
 

@@ -1,7 +1,7 @@
 use Rattle.splits.proofs.SplitLaws.{abort-in-refused, abort-in-done}
 use Rattle.splits.specs.Control.{controlOf}
 use borrow.Author.Needs.{needs}
-use mathlib.Core.Path.{_≡_, sym, ap, _∙_}
+use mathlib.Core.Path.{ap, _∙_}
 use Rattle.splits.proofs.aborts.initiate_abort_in.Statement.{statement}
 use Rattle.splits.proofs.aborts.initiate_abort_in.Tie as tie
 

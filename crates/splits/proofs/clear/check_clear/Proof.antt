@@ -2,7 +2,7 @@ use Rattle.splits.proofs.SplitLaws.{clear-pending, clear-done, clear-wr
 use Rattle.splits.specs.Control.{controlOf}
 use borrow.Author.Needs.{needs}
 use borrow.Author.Tests.{eq-eqb, ne-eqb}
-use mathlib.Core.Path.{_≡_, sym, ap, _∙_}
+use mathlib.Core.Path.{sym, ap, _∙_}
 use Rattle.splits.proofs.clear.check_clear.Statement.{statement}
 use Rattle.splits.proofs.clear.check_clear.Tie as tie
 

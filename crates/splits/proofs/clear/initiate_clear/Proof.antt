@@ -1,7 +1,7 @@
 use Rattle.splits.proofs.SplitLaws.{clear-busy, clear-begins}
 use Rattle.splits.specs.Control.{controlOf}
 use borrow.Author.Needs.{needs}
-use mathlib.Core.Path.{_≡_, sym, ap, _∙_}
+use mathlib.Core.Path.{sym, ap, _∙_}
 use Rattle.splits.proofs.clear.initiate_clear.Statement.{statement}
 use Rattle.splits.proofs.clear.initiate_clear.Tie as tie
 

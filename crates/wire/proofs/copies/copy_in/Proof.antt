@@ -1,14 +1,12 @@
 -- `wire::copies::copy_in` meets its contract: after j turns dst is `paste` of the first j bytes.
-use Prim.Native.Nat.{ℕ, _+_, _-_, _≤_, _<_}
-use mathlib.Core.Path.{_≡_, refl, sym, ap, _∙_}
+use Prim.Native.Nat.{_+_, _-_, _≤_, _<_}
+use mathlib.Core.Path.{_≡_, refl}
 use native.Mathlib.Omega.{arith}
 use native.Mathlib.Numerals.{add-one}
-use lib.ListN.{length, getD, set, take, drop, length-set, length-drop}
+use lib.ListN.{length, drop, length-set, length-drop}
 use lib.Seq.{paste, paste-zero, paste-suc, getD-drop}
 use Rattle.wire.proofs.copies.copy_in.Statement.{statement}
 use Rattle.wire.proofs.copies.copy_in.Tie as tie
-use Rattle.wire.proofs.copies.copy_in.Reads as reads
-use Rattle.wire.proofs.copies.copy_in.Lts as lts
 
 abbrev Inv-loop : tie.InvT-loop
 Inv-loop dst₀ at s a n j₀ dst j = (j ≤ n) × (dst ≡ paste dst₀ at (drop a s) j) × (length dst ≡ length dst₀)
@@ -16,29 +14,13 @@ Inv-loop dst₀ at s a n j₀ dst j = (j ≤ n) × (dst ≡ paste dst₀ at (dro
 abbrev μ-loop : tie.MeasureT-loop
 μ-loop dst₀ at s a n j₀ dst j = n - j
 
-loop-holds : tie.Need-loop-holds Inv-loop μ-loop
-loop-holds c = (omega arith, paste-zero (c .args .dst .now) (c .args .at) (drop (c .args .from) (c .args .s .now)), refl)
-
-add-dst : tie.Need-add-dst Inv-loop μ-loop
-add-dst c = omega arith
-
-shared-slice-read-dst : tie.Need-shared-slice-read-dst Inv-loop μ-loop
-shared-slice-read-dst c = omega arith
-
-add-dst-2 : tie.Need-add-dst-2 Inv-loop μ-loop
-add-dst-2 c = omega arith
-
-slice-write-dst : tie.Need-slice-write-dst Inv-loop μ-loop
-slice-write-dst c = omega arith
-
-add-j : tie.Need-add-j Inv-loop μ-loop
-add-j c = omega arith
-
-loop-less : tie.Need-loop-less Inv-loop μ-loop
-loop-less c = omega arith
-
-loop-again : tie.Need-loop-again Inv-loop μ-loop
-loop-again c =
+pub copy-in-spec : {M : Type 1} → statement M
+copy-in-spec =
+    tie.close
+    (tie.spec
+    Inv-loop μ-loop (λ c. (omega arith, paste-zero (c .args .dst .now) (c .args .at) (drop (c .args .from) (c .args .s .now)), refl)) (λ c. omega arith)
+    (λ c. omega arith) (λ c. omega arith) (λ c. omega arith) (λ c. omega arith) (λ c. omega arith)
+    (λ c.
     let a = c .before .before .before .args in
     let l = c .before .before .loop in
     let h₁ : a .at + l .j < length (a .dst .now) = omega arith in
@@ -46,29 +28,8 @@ loop-again c =
       omega arith,
       rw (l .inv .1, add-one, ← getD-drop (a .from) (a .s .now) (l .j) 0) (paste-suc (a .dst .now) (a .at) _ (l .j) 0 h₁ h₂),
       simp length-set (l .inv .2),
-    )
-
-same-length : tie.Need-same-length Inv-loop μ-loop
-same-length c = c .before .loop .inv .2
-
-returns : tie.Need-returns Inv-loop μ-loop
-returns c =
+    ))
+    (λ c. c .before .loop .inv .2)
+    (λ c.
     let e : c .before .loop .j ≡ c .before .before .args .n = omega arith in
-    rw (← e) (c .before .loop .inv .1)
-
-pub copy-in-spec : {M : Type 1} → statement M
-copy-in-spec =
-    tie.close
-    (tie.spec
-    Inv-loop
-    μ-loop
-    loop-holds
-    add-dst
-    shared-slice-read-dst
-    add-dst-2
-    slice-write-dst
-    add-j
-    loop-less
-    loop-again
-    same-length
-    returns)
+    rw (← e) (c .before .loop .inv .1)))

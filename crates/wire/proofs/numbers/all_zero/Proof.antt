@@ -2,17 +2,14 @@
 use Prim.Native.Nat.{ℕ, zero, suc, _+_, _-_, _≤_, _<_}
 use mathlib.Core.Path.{_≡_, refl, sym, ap, _∙_}
 use mathlib.Core.List.{List, _∷_}
-use mathlib.Core.Bool.{Bool, true, false}
+use mathlib.Core.Bool.{true, false}
 use native.Mathlib.Omega.{arith}
 use native.Mathlib.Numerals.{add-one}
 use lib.ListN.{length, getD}
 use lib.Seq.{slice, slice-cons, slice-empty}
-use borrow.Author.Needs.{needs}
 use Rattle.wire.specs.Bytes.{zeros, allZero}
 use Rattle.wire.proofs.numbers.all_zero.Statement.{statement}
 use Rattle.wire.proofs.numbers.all_zero.Tie as tie
-use Rattle.wire.proofs.numbers.all_zero.Reads as reads
-use Rattle.wire.proofs.numbers.all_zero.Lts as lts
 
 head-not : (n : ℕ) (s : List ℕ) → (n ≡ 0 → ⊥) → allZero (n ∷ s) ≡ false
 head-not zero s h = absurd (h refl)
@@ -36,36 +33,22 @@ Inv-loop s a e i₀ i = (a ≤ i) × (i ≤ e) × (zeros s a e ≡ zeros s i e)
 abbrev μ-loop : tie.MeasureT-loop
 μ-loop s a e i₀ i = e - i
 
-loop-holds : tie.Need-loop-holds Inv-loop μ-loop
-loop-holds c = (omega arith, omega arith, refl)
-
-shared-slice-read-if1 : tie.Need-shared-slice-read-if1 Inv-loop μ-loop
-shared-slice-read-if1 c = omega arith
-
-returns : tie.Need-returns Inv-loop μ-loop
-returns c =
+pub all-zero-spec : {M : Type 1} → statement M
+all-zero-spec =
+    tie.close
+    (tie.spec
+    Inv-loop μ-loop (λ c. (omega arith, omega arith, refl)) (λ c. omega arith)
+    (λ c.
     let a = c .before .before .before .before .args in
     let l = c .before .before .before .loop in
-    sym (l .inv .2 ∙ stop (a .s .now) (l .i) (a .e) (omega arith) (omega arith) (search))
-
-add-i : tie.Need-add-i Inv-loop μ-loop
-add-i c = omega arith
-
-loop-less : tie.Need-loop-less Inv-loop μ-loop
-loop-less c = omega arith
-
-loop-again : tie.Need-loop-again Inv-loop μ-loop
-loop-again c =
+    sym (l .inv .2 ∙ stop (a .s .now) (l .i) (a .e) (omega arith) (omega arith) (search)))
+    (λ c. omega arith) (λ c. omega arith)
+    (λ c.
     let a = c .before .before .before .before .args in
     let l = c .before .before .before .loop in
-    (omega arith, omega arith, l .inv .2 ∙ step (a .s .now) (l .i) (a .e) (omega arith) (omega arith) (search))
-
-returns-2 : tie.Need-returns-2 Inv-loop μ-loop
-returns-2 c =
+    (omega arith, omega arith, l .inv .2 ∙ step (a .s .now) (l .i) (a .e) (omega arith) (omega arith) (search)))
+    (λ c.
     let a = c .before .before .args in
     let l = c .before .loop in
     let q : l .i ≡ a .e = omega arith in
-    sym (l .inv .2 ∙ ap (λ (k : ℕ). zeros (a .s .now) k (a .e)) q ∙ done (a .s .now) (a .e))
-
-pub all-zero-spec : {M : Type 1} → statement M
-all-zero-spec = tie.close (tie.spec Inv-loop μ-loop loop-holds shared-slice-read-if1 returns add-i loop-less loop-again returns-2)
+    sym (l .inv .2 ∙ ap (λ (k : ℕ). zeros (a .s .now) k (a .e)) q ∙ done (a .s .now) (a .e))))

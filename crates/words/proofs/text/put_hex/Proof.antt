@@ -12,53 +12,9 @@ Inv-loop out₀ at bytes end₀ i₀ out end i = (i ≤ length bytes) × (length
 abbrev μ-loop : tie.MeasureT-loop
 μ-loop out₀ at bytes end₀ i₀ out end i = length bytes - i
 
-put-byte-requires : tie.Need-put-byte-requires Inv-loop μ-loop
-put-byte-requires c κs = search needs
-
-same-length : tie.Need-same-length Inv-loop μ-loop
-same-length c = search needs
-
-returns : tie.Need-returns Inv-loop μ-loop
-returns c = search needs
-
-loop-holds : tie.Need-loop-holds Inv-loop μ-loop
-loop-holds c = search needs
-
-shared-slice-read-put-pair : tie.Need-shared-slice-read-put-pair Inv-loop μ-loop
-shared-slice-read-put-pair c = search needs
-
-put-pair-requires : tie.Need-put-pair-requires Inv-loop μ-loop
-put-pair-requires c κs = search needs
-
-add-i : tie.Need-add-i Inv-loop μ-loop
-add-i c = search needs
-
-loop-less : tie.Need-loop-less Inv-loop μ-loop
-loop-less c = search needs
-
-loop-again : tie.Need-loop-again Inv-loop μ-loop
-loop-again c = search needs
-
-same-length-2 : tie.Need-same-length-2 Inv-loop μ-loop
-same-length-2 c = search needs
-
-returns-2 : tie.Need-returns-2 Inv-loop μ-loop
-returns-2 c = search needs
-
 pub put-hex-spec : {M : Type 1} → statement M
 put-hex-spec =
     tie.close
     (tie.spec
-    Inv-loop
-    μ-loop
-    put-byte-requires
-    same-length
-    returns
-    loop-holds
-    shared-slice-read-put-pair
-    put-pair-requires
-    add-i
-    loop-less
-    loop-again
-    same-length-2
-    returns-2)
+    Inv-loop μ-loop (λ c κs. search needs) (λ c. search needs) (λ c. search needs) (λ c. search needs) (λ c. search needs) (λ c κs. search needs)
+    (λ c. search needs) (λ c. search needs) (λ c. search needs) (λ c. search needs) (λ c. search needs))

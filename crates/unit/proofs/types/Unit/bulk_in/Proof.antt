@@ -6,7 +6,7 @@ use Rattle.unit.proofs.Steps.{handed}
 use Rattle.unit.specs.Promise.{deviceOf}
 use borrow.Author.Needs.{needs}
 use lib.ListN.{length}
-use mathlib.Core.Path.{_≡_, refl}
+use mathlib.Core.Path.{refl}
 use Rattle.unit.proofs.types.Unit.bulk_in.Statement.{statement}
 use Rattle.unit.proofs.types.Unit.bulk_in.Tie as tie
 

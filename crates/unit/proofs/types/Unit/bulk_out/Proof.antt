@@ -1,6 +1,6 @@
 use Rattle.unit.proofs.Steps.{stepped}
 use borrow.Author.Needs.{needs}
-use mathlib.Core.Path.{_≡_, _∙_}
+use mathlib.Core.Path.{_∙_}
 use Rattle.unit.proofs.types.Unit.bulk_out.Statement.{statement}
 use Rattle.unit.proofs.types.Unit.bulk_out.Tie as tie
 

@@ -1,7 +1,7 @@
 use Rattle.unit.proofs.Steps.{reset-done, reset-refused}
 use Rattle.unit.specs.Promise.{deviceOf}
 use borrow.Author.Needs.{needs}
-use mathlib.Core.Path.{_≡_, sym, _∙_}
+use mathlib.Core.Path.{sym, _∙_}
 use Rattle.unit.proofs.types.Unit.bus_reset.Statement.{statement}
 use Rattle.unit.proofs.types.Unit.bus_reset.Tie as tie
 
@@ -10,6 +10,8 @@ bus-reset-spec =
     tie.close
     (tie.spec
     (λ c κs. search needs) (λ c κs. search needs) (λ c κs. search needs) (λ c κs. search needs)
-    (λ c. rw (c .only .ensures, c .before .made .ensures, c .before .before .before .before .state .ensures) (reset-done (deviceOf (c .before .before .before .before .before .args .self)) (sym (rw (c .before .before .before .before .state .ensures) at (c .before .before .before .sound .ensures)) ∙ c .before .before .if1 .taken)))
+    (λ c.
+    let c3 = c .before .before .before in
+    rw (c .only .ensures, c .before .made .ensures, c3 .before .state .ensures) (reset-done (deviceOf (c3 .before .before .args .self)) (sym (rw (c3 .before .state .ensures) at (c3 .sound .ensures)) ∙ c .before .before .if1 .taken)))
     (λ c κs. search needs)
     (λ c. rw (c .only2 .ensures) (reset-refused (deviceOf (c .before .before .before .before .args .self)) (sym (rw (c .before .before .before .state .ensures) at (c .before .before .sound .ensures)) ∙ c .before .if1 .left))))

@@ -1,6 +1,6 @@
 use Rattle.unit.proofs.Steps.{powered, unpowered}
 use borrow.Author.Needs.{needs}
-use mathlib.Core.Path.{_≡_, sym, _∙_}
+use mathlib.Core.Path.{sym, _∙_}
 use Rattle.unit.proofs.types.Unit.new.Statement.{statement}
 use Rattle.unit.proofs.types.Unit.new.Tie as tie
 

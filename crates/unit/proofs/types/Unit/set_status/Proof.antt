@@ -3,7 +3,7 @@ use Rattle.port.specs.Step.{set-status, quiet, quietly, soundly}
 use Rattle.unit.proofs.Steps.{moved}
 use Rattle.unit.specs.Promise.{deviceOf}
 use borrow.Author.Needs.{needs}
-use mathlib.Core.Path.{_≡_, refl, _∙_}
+use mathlib.Core.Path.{refl, _∙_}
 use Rattle.unit.proofs.types.Unit.set_status.Statement.{statement}
 use Rattle.unit.proofs.types.Unit.set_status.Tie as tie
 

@@ -6,7 +6,7 @@ use Rattle.unit.proofs.Steps.{moved}
 use Rattle.unit.specs.Promise.{deviceOf}
 use borrow.Author.Needs.{needs}
 use mathlib.Core.List.{[]}
-use mathlib.Core.Path.{_≡_, refl, _∙_}
+use mathlib.Core.Path.{refl, _∙_}
 use Rattle.unit.proofs.types.Unit.suspend.Statement.{statement}
 use Rattle.unit.proofs.types.Unit.suspend.Tie as tie
 

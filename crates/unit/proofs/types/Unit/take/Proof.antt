@@ -5,7 +5,7 @@ use Rattle.unit.proofs.Steps.{handed}
 use Rattle.unit.specs.Promise.{deviceOf}
 use borrow.Author.Needs.{needs}
 use lib.ListN.{length}
-use mathlib.Core.Path.{_≡_, refl}
+use mathlib.Core.Path.{refl}
 use Rattle.unit.proofs.types.Unit.take.Statement.{statement}
 use Rattle.unit.proofs.types.Unit.take.Tie as tie
 
