@@ -18,7 +18,7 @@ use Rattle.wire.specs.declared.types.Endpoint.the-variants.{Out}
 use Rattle.wire.specs.declared.types.Row.the-variants.{CheckClearStatus, SetFeature}
 use Rattle.wire.specs.declared.types.Setup.{Setup}
 use Rattle.wire.specs.declared.types.Setup.the-variants.{Configure, Asks}
-use Rattle.port.specs.Parts.{STORE, CLOSED, OWED, isSize, isOwed, isClear, packetSize, portOf, outOf, inOf, isConfigured, closedIn, withSplit, emptyOut, emptyIn, fresh, broken, haltedOut}
+use Rattle.port.specs.Parts.{STORE, CLOSED, OWED, isSize, isOwed, isClear, packetSize, portOf, outOf, inOf, isConfigured, transferIn, closedIn, withSplit, emptyOut, emptyIn, fresh, broken, haltedOut}
 use Rattle.port.specs.Sound.{sound}
 use Rattle.port.specs.Answer.{Answer}
 use Rattle.port.specs.Rows.{Reaction, answering, checkClear, answerRow, effected, reacted}
@@ -174,7 +174,7 @@ module _ (u : Device) (control : ℕ) (h : Sound (u .state)) (r : Result) (c : C
       by : Phase (inOf (u .state) .reply .unsent) (inOf (u .state) .transfer) → atFront (inOf (u .state)) ≡ emptyIn closedIn (inOf (u .state) .halted) 0
       by (is-closed e t i′) = λ i. record {
         reply = record { at = 0; unsent = k .unsent i };
-        transfer = record { phase = e i; tag = t i; asked = i′ .asked i; enabled = i′ .enabled i; term = i′ .term i; left = i′ .left i; sent = i′ .sent i };
+        transfer = transferIn (e i) (t i) (i′ .asked i) (i′ .enabled i) (i′ .term i) (i′ .left i) (i′ .sent i);
         halted = inOf (u .state) .halted;
         recent = k .in-tag i;
       }

@@ -1,6 +1,6 @@
 -- A unit shut and opened again is the unit; bytes that are a unit's, opened and shut again, are the bytes. By parts.
 -- Assumes nothing.
-use Prim.Native.Nat.{ℕ, zero, suc, _+_, _*_, _/_, _%_, _≤_, _<_}
+use Prim.Native.Nat.{ℕ, zero, suc, _+_, _-_, _*_, _/_, _%_, _≤_, _<_}
 use mathlib.Core.Path.{_≡_, refl, sym, ap, _∙_}
 use mathlib.Core.Bool.{true}
 use mathlib.Core.List.{List, [], _∷_, _++_}
@@ -138,20 +138,19 @@ whole : (n : ℕ) (f : List ℕ) → length f ≡ n → from f 0 n ≡ f
 whole n f e = sym (spelt 0 n f (omega arith)) ∙ take-all n f (omega arith)
 
 pub port-back : Back PORT (λ f. portBytes (portIn f))
-port-back f e h = (λ i. two f h 0 i ++ byte f 2 ∷ byte f 3 ∷ byte f 4 ∷ []) ∙ whole PORT f e
+port-back f e h = (λ i. two f h 0 i ++ from f 2 (PORT - 2)) ∙ whole PORT f e
 
 pub out-message-back : Back OUT-MESSAGE (λ f. outMessageBytes (outMessageIn f))
-out-message-back f e h = (λ i. two f h 0 i ++ byte f 2 ∷ []) ∙ whole OUT-MESSAGE f e
+out-message-back f e h = (λ i. two f h 0 i ++ from f 2 (OUT-MESSAGE - 2)) ∙ whole OUT-MESSAGE f e
 
 pub out-transfer-back : Back OUT-TRANSFER (λ f. outTransferBytes (outTransferIn f))
-out-transfer-back f e h = (λ i. two f h 0 i ++ two f h 2 i ++ byte f 4 ∷ []) ∙ whole OUT-TRANSFER f e
+out-transfer-back f e h = (λ i. two f h 0 i ++ two f h 2 i ++ from f 4 (OUT-TRANSFER - 4)) ∙ whole OUT-TRANSFER f e
 
 pub in-reply-back : Back IN-REPLY (λ f. inReplyBytes (inReplyIn f))
 in-reply-back f e h = (λ i. two f h 0 i ++ two f h 2 i) ∙ whole IN-REPLY f e
 
 pub in-transfer-back : Back IN-TRANSFER (λ f. inTransferBytes (inTransferIn f))
-in-transfer-back f e h =
-    (λ i. two f h 0 i ++ two f h 2 i ++ two f h 4 i ++ byte f 6 ∷ byte f 7 ∷ byte f 8 ∷ byte f 9 ∷ []) ∙ whole IN-TRANSFER f e
+in-transfer-back f e h = (λ i. two f h 0 i ++ two f h 2 i ++ two f h 4 i ++ from f 6 (IN-TRANSFER - 6)) ∙ whole IN-TRANSFER f e
 
 split-again-bytes : (count k : ℕ) → k ≤ 3 → (isAbort k or count =ᵇ 0) ≡ true → splitBytes (splitOf count k) ≡ bytes2 count ++ k ∷ 0 ∷ []
 unfolding splitOf kindOf countOf _or_

@@ -7,7 +7,7 @@ use mathlib.Core.Bool.{true}
 use mathlib.Core.List.{List, [], _∷_, _++_}
 use native.Mathlib.Omega.{arith}
 use lib.ListN.{length, replicate, length-replicate, replicate-append-replicate}
-use lib.Seq.{paste, paste-zero, length-paste}
+use lib.Seq.{paste, length-paste}
 use Rattle.port.specs.Parts.{STORE, outOf, inOf, withPort, withOut, withIn, withSplit, withRemote, holding, carrying, withInHalted}
 use Rattle.port.specs.Out.{tagged}
 use Rattle.port.specs.Device.{Device, withState, zeroed}
@@ -25,13 +25,10 @@ use Rattle.port.specs.declared.types.State.{State}
 use Rattle.flat.proofs.Pastes.{paste-left, paste-right, paste-all}
 use Rattle.flat.proofs.Again.{shut-opened}
 use Rattle.flat.proofs.Parted.{stores-long, opened-stored}
-use Rattle.flat.specs.Flat.{PORT, OUT-MESSAGE, OUT-TRANSFER, IN-REPLY, IN-TRANSFER, SPLIT, REPLY-AT, PORT-AT, REMOTE-AT, OUT-MESSAGE-AT, OUT-HALTED-AT, OUT-TRANSFER-AT, OUT-RECENT-AT, IN-REPLY-AT, IN-TRANSFER-AT, IN-HALTED-AT, IN-RECENT-AT, SPLIT-AT, UNIT, placeOf, portBytes, outMessageBytes, outTransferBytes, inReplyBytes, inTransferBytes, splitBytes, bytesOf, opened, shut, isUnit, Bytes}
-use Rattle.flat.specs.Sides.{OUT, IN, STATE, outBytes, inBytes}
+use Rattle.flat.specs.Flat.{PORT, OUT-MESSAGE, OUT-TRANSFER, IN-REPLY, IN-TRANSFER, SPLIT, REPLY-AT, PORT-AT, REMOTE-AT, OUT-MESSAGE-AT, OUT-TRANSFER-AT, OUT-RECENT-AT, IN-REPLY-AT, IN-TRANSFER-AT, IN-HALTED-AT, IN-RECENT-AT, SPLIT-AT, UNIT, placeOf, portBytes, outMessageBytes, outTransferBytes, inReplyBytes, inTransferBytes, splitBytes, bytesOf, opened, shut, isUnit, Bytes}
+use Rattle.flat.specs.Sides.{OUT, IN, outBytes, inBytes}
 
 -- one part set, the others kept, where port/specs/Parts.antt has no name for it
-abbrev pub withOutHalted : BulkOut → ℕ → BulkOut
-withOutHalted o h = record { message = o .message; transfer = o .transfer; halted = h; recent = o .recent }
-
 abbrev pub inTagged : BulkIn → ℕ → BulkIn
 inTagged b tag = record { reply = b .reply; transfer = b .transfer; halted = b .halted; recent = tag }
 
@@ -85,10 +82,6 @@ pub out-message-put : {d : Device} (m : OutMessage) → Put d OUT-MESSAGE-AT (ou
 unfolding bytesOf
 out-message-put m = behind (omega arith) refl
 
-pub out-halted-put : {d : Device} (halted : ℕ) → Put d OUT-HALTED-AT (halted ∷ []) 1 (withState d (withOut (d .state) (withOutHalted (out d) halted)))
-unfolding bytesOf
-out-halted-put halted = behind (omega arith) refl
-
 pub out-transfer-put : {d : Device} (t : OutTransfer) → Put d OUT-TRANSFER-AT (outTransferBytes t) OUT-TRANSFER (withState d (withOut (d .state) (holding (out d) (out d .message) t)))
 unfolding bytesOf
 out-transfer-put t = behind (omega arith) refl
@@ -125,10 +118,6 @@ pub in-put : {d : Device} (b : BulkIn) → Put d IN-REPLY-AT (inBytes b) IN (wit
 unfolding bytesOf
 in-put b = behind (omega arith) refl
 
-pub state-put : {d : Device} (st : State) → Put d PORT-AT (bytesOf st) STATE (withState d st)
-unfolding bytesOf
-state-put st = behind (omega arith) refl
-
 -- ** the stores
 
 front : {d : Device} {u v : List ℕ} → Holds d u → (at : ℕ) (s : List ℕ) (n : ℕ) → at + n ≤ PORT-AT → v ≡ paste u at s n → v ≡ paste (d .message ++ d .reply) at s n ++ bytesOf (d .state)
@@ -143,17 +132,6 @@ message-put {d} at s n room enough = record {
       record {
         stored = record { message = length-paste (d .message) at s n (omega arith) enough ∙ long; reply = e .stored .reply };
         bytes = rw (front e at s n (omega arith) f, paste-left (d .message) (d .reply) at s n (omega arith));
-      };
-}
-
--- no byte of it, wherever it would go
-pub nothing-put : {d : Device} (at : ℕ) (s : List ℕ) → Put d at s 0 (withMessage d (paste (d .message) at s 0))
-nothing-put {d} at s = record {
-  to = λ e f.
-      let same = paste-zero (d .message) at s in
-      record {
-        stored = record { message = ap length (sym same) ∙ e .stored .message; reply = e .stored .reply };
-        bytes = f ∙ sym (paste-zero _ at s) ∙ e .bytes ∙ ap (λ (m : List ℕ). shut (withMessage d m)) same;
       };
 }
 

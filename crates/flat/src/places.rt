@@ -1,17 +1,11 @@
-// How many bytes a part of a unit has, and where it stands: each behind the one before it. A flag, a tag and the remote/local state have one.
+// Where a part of a unit stands: each behind the one before it. A flag, a tag and the remote/local state have a byte.
+use crate::bytes::IN_REPLY;
+use crate::bytes::IN_TRANSFER;
+use crate::bytes::OUT_MESSAGE;
+use crate::bytes::OUT_TRANSFER;
+use crate::bytes::PORT;
+use crate::bytes::SPLIT;
 use port::types::STORE;
-
-pub const PORT: usize = 5;
-
-pub const OUT_MESSAGE: usize = 3;
-
-pub const OUT_TRANSFER: usize = 5;
-
-pub const IN_REPLY: usize = 4;
-
-pub const IN_TRANSFER: usize = 10;
-
-pub const SPLIT: usize = 4;
 
 pub const REPLY_AT: usize = STORE as usize;
 

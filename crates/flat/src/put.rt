@@ -1,4 +1,5 @@
 // A part of a unit put in its place, as bytes; every other byte stays.
+use crate::bytes;
 use crate::places;
 use port::types::BulkIn;
 use port::types::BulkOut;
@@ -11,105 +12,13 @@ use port::types::Remote;
 use port::types::Split;
 use port::types::State;
 use wire::copies::copy_in;
-use wire::numbers::high;
-use wire::numbers::low;
 ghost use mathlib.Core.Path.{_≡_};
 ghost use mathlib.Core.List.{[], _∷_};
-ghost use Prim.Native.Nat.{ℕ, _/_, _%_, _<_, _≤_};
+ghost use Prim.Native.Nat.{ℕ, _<_, _≤_};
 ghost use lib.ListN.{length, replicate};
 ghost use lib.Seq.{paste};
 ghost use Rattle.flat.specs.Flat.{PORT, OUT-MESSAGE, OUT-TRANSFER, IN-REPLY, IN-TRANSFER, SPLIT, PORT-AT, REMOTE-AT, OUT-MESSAGE-AT, OUT-HALTED-AT, OUT-TRANSFER-AT, OUT-RECENT-AT, IN-REPLY-AT, IN-TRANSFER-AT, IN-HALTED-AT, IN-RECENT-AT, SPLIT-AT, UNIT, placeOf, portBytes, outMessageBytes, outTransferBytes, inReplyBytes, inTransferBytes, splitBytes, bytesOf};
 ghost use Rattle.flat.specs.Sides.{OUT, IN, STATE, outBytes, inBytes};
-
-// ** the bytes of a part
-
-// The low byte of a number of 16 bits, and the high one.
-fn low16(n: u16) -> u8
-    ensures { λ r. ⌜ r ≡ n % 256 ⌝ }
-{
-    low(n as u32)
-}
-
-fn high16(n: u16) -> u8
-    ensures { λ r. ⌜ r ≡ n / 256 % 256 ⌝ }
-{
-    high(n as u32)
-}
-
-fn port_bytes(p: Port) -> [u8; places::PORT]
-    ensures { λ r. ⌜ r ≡ portBytes p ⌝ }
-{
-    [
-        low16(p.setting.packet),
-        high16(p.setting.packet),
-        p.configured,
-        p.ren,
-        p.status,
-    ]
-}
-
-fn place_of(r: Remote) -> u8
-    ensures { λ k. ⌜ k ≡ placeOf r ⌝ }
-{
-    match r {
-        Remote::Locs => 0,
-        Remote::Rems => 1,
-        Remote::Lwls => 2,
-        Remote::Rwls => 3,
-    }
-}
-
-fn out_message_bytes(m: OutMessage) -> [u8; places::OUT_MESSAGE]
-    ensures { λ r. ⌜ r ≡ outMessageBytes m ⌝ }
-{
-    [low16(m.held), high16(m.held), m.ready]
-}
-
-fn out_transfer_bytes(t: OutTransfer) -> [u8; places::OUT_TRANSFER]
-    ensures { λ r. ⌜ r ≡ outTransferBytes t ⌝ }
-{
-    [
-        low16(t.left),
-        high16(t.left),
-        low16(t.got),
-        high16(t.got),
-        t.end,
-    ]
-}
-
-fn in_reply_bytes(r: InReply) -> [u8; places::IN_REPLY]
-    ensures { λ b. ⌜ b ≡ inReplyBytes r ⌝ }
-{
-    [low16(r.at), high16(r.at), low16(r.unsent), high16(r.unsent)]
-}
-
-fn in_transfer_bytes(t: InTransfer) -> [u8; places::IN_TRANSFER]
-    ensures { λ r. ⌜ r ≡ inTransferBytes t ⌝ }
-{
-    [
-        low16(t.asked),
-        high16(t.asked),
-        low16(t.left),
-        high16(t.left),
-        low16(t.sent),
-        high16(t.sent),
-        t.phase,
-        t.tag,
-        t.enabled,
-        t.term,
-    ]
-}
-
-fn split_bytes(s: Split) -> [u8; places::SPLIT]
-    ensures { λ r. ⌜ r ≡ splitBytes s ⌝ }
-{
-    match s {
-        Split::None => [0, 0, 0, 0],
-        Split::AbortOut { count } => [low16(count), high16(count), 1, 0],
-        Split::AbortIn { count } => [low16(count), high16(count), 2, 0],
-        Split::Clear => [0, 0, 3, 0],
-    }
-}
 
 // ** a part in its place
 
@@ -124,15 +33,15 @@ pub fn put_port(u: &mut [u8], p: Port)
     requires { ⌜ UNIT ≤ length (now u) ⌝ }
     ensures { λ _. ⌜ now (u .exit) ≡ paste (now (u .entry)) PORT-AT (portBytes p) PORT ⌝ }
 {
-    let b = port_bytes(p);
-    copy_in(u, places::PORT_AT, &b, 0, places::PORT);
+    let b = bytes::port_bytes(p);
+    copy_in(u, places::PORT_AT, &b, 0, bytes::PORT);
 }
 
 pub fn put_remote(u: &mut [u8], r: Remote)
     requires { ⌜ UNIT ≤ length (now u) ⌝ }
     ensures { λ _. ⌜ now (u .exit) ≡ paste (now (u .entry)) REMOTE-AT (placeOf r ∷ []) 1 ⌝ }
 {
-    let place = place_of(r);
+    let place = bytes::place_of(r);
     put_byte(u, places::REMOTE_AT, place);
 }
 
@@ -140,8 +49,8 @@ pub fn put_out_message(u: &mut [u8], m: OutMessage)
     requires { ⌜ UNIT ≤ length (now u) ⌝ }
     ensures { λ _. ⌜ now (u .exit) ≡ paste (now (u .entry)) OUT-MESSAGE-AT (outMessageBytes m) OUT-MESSAGE ⌝ }
 {
-    let b = out_message_bytes(m);
-    copy_in(u, places::OUT_MESSAGE_AT, &b, 0, places::OUT_MESSAGE);
+    let b = bytes::out_message_bytes(m);
+    copy_in(u, places::OUT_MESSAGE_AT, &b, 0, bytes::OUT_MESSAGE);
 }
 
 pub fn put_out_halted(u: &mut [u8], halted: u8)
@@ -155,8 +64,8 @@ pub fn put_out_transfer(u: &mut [u8], t: OutTransfer)
     requires { ⌜ UNIT ≤ length (now u) ⌝ }
     ensures { λ _. ⌜ now (u .exit) ≡ paste (now (u .entry)) OUT-TRANSFER-AT (outTransferBytes t) OUT-TRANSFER ⌝ }
 {
-    let b = out_transfer_bytes(t);
-    copy_in(u, places::OUT_TRANSFER_AT, &b, 0, places::OUT_TRANSFER);
+    let b = bytes::out_transfer_bytes(t);
+    copy_in(u, places::OUT_TRANSFER_AT, &b, 0, bytes::OUT_TRANSFER);
 }
 
 pub fn put_out_recent(u: &mut [u8], tag: u8)
@@ -170,16 +79,16 @@ pub fn put_in_reply(u: &mut [u8], r: InReply)
     requires { ⌜ UNIT ≤ length (now u) ⌝ }
     ensures { λ _. ⌜ now (u .exit) ≡ paste (now (u .entry)) IN-REPLY-AT (inReplyBytes r) IN-REPLY ⌝ }
 {
-    let b = in_reply_bytes(r);
-    copy_in(u, places::IN_REPLY_AT, &b, 0, places::IN_REPLY);
+    let b = bytes::in_reply_bytes(r);
+    copy_in(u, places::IN_REPLY_AT, &b, 0, bytes::IN_REPLY);
 }
 
 pub fn put_in_transfer(u: &mut [u8], t: InTransfer)
     requires { ⌜ UNIT ≤ length (now u) ⌝ }
     ensures { λ _. ⌜ now (u .exit) ≡ paste (now (u .entry)) IN-TRANSFER-AT (inTransferBytes t) IN-TRANSFER ⌝ }
 {
-    let b = in_transfer_bytes(t);
-    copy_in(u, places::IN_TRANSFER_AT, &b, 0, places::IN_TRANSFER);
+    let b = bytes::in_transfer_bytes(t);
+    copy_in(u, places::IN_TRANSFER_AT, &b, 0, bytes::IN_TRANSFER);
 }
 
 pub fn put_in_halted(u: &mut [u8], halted: u8)
@@ -200,8 +109,8 @@ pub fn put_split(u: &mut [u8], s: Split)
     requires { ⌜ UNIT ≤ length (now u) ⌝ }
     ensures { λ _. ⌜ now (u .exit) ≡ paste (now (u .entry)) SPLIT-AT (splitBytes s) SPLIT ⌝ }
 {
-    let b = split_bytes(s);
-    copy_in(u, places::SPLIT_AT, &b, 0, places::SPLIT);
+    let b = bytes::split_bytes(s);
+    copy_in(u, places::SPLIT_AT, &b, 0, bytes::SPLIT);
 }
 
 // ** parts one behind the other

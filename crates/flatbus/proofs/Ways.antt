@@ -8,7 +8,7 @@ use lib.Seq.{paste}
 use Rattle.rules.specs.Answers.{DONE, WRONG-SIZE}
 use Rattle.rules.proofs.Choice.{at-true, at-false}
 use Rattle.wire.specs.Header.{OFF}
-use Rattle.port.specs.Parts.{FULL-SPEED, isSize, withRen}
+use Rattle.port.specs.Parts.{FULL-SPEED, isSize, portOf, withRen}
 use Rattle.port.specs.Remote.{localNow}
 use Rattle.port.specs.Answer.{number}
 use Rattle.port.specs.Device.{Result, made, powerOn}
@@ -16,7 +16,7 @@ use Rattle.port.specs.Calls.{busReset, suspend}
 use Rattle.port.specs.Step.{Call, quiet, bus-reset, bus-suspend, quietly, soundly}
 use Rattle.port.specs.declared.types.Setting.{Setting}
 use Rattle.port.specs.declared.types.Remote.the-variants.{Locs}
-use Rattle.flat.specs.Flat.{PORT, PORT-AT, REMOTE-AT, portIn, portBytes, placeOf, part, stateIn, opened, shut}
+use Rattle.flat.specs.Flat.{PORT, PORT-AT, REMOTE-AT, portBytes, placeOf, stateIn, opened, shut}
 use Rattle.flat.proofs.Puts.{port-put, remote-put}
 use Rattle.flatcalls.specs.Promise.{IsNumber, shutOf, onBytes, answerOf, Leaves}
 use Rattle.flatcalls.specs.declared.types.Answer.{Answer}
@@ -46,14 +46,14 @@ module _ (u : List ℕ) (n : ℕ) (is : IsNumber u [] n) (u′ : List ℕ) (r : 
   pub bus-refused : (c : Call) → (n ≡ 0 → ⊥) → r ≡ answerOf (number n) → Leaves (onBytes u c) u r
   bus-refused c e a = refusal u c is (λ _ g. absurd (e g)) r a
 
-  pub reset-done : n ≡ 0 → u′ ≡ shut (made (portIn (part PORT-AT PORT u) .setting) OFF) → r ≡ answerOf (number DONE) → Leaves (onBytes u bus-reset) u′ r
-  unfolding opened stateIn soundly busReset
+  pub reset-done : n ≡ 0 → u′ ≡ shut (made (portOf (stateIn u) .setting) OFF) → r ≡ answerOf (number DONE) → Leaves (onBytes u bus-reset) u′ r
+  unfolding opened soundly busReset
   reset-done z f a = leaves u (is .lent) bus-reset (is-sound is z) _ refl u′ r (record { stored = made-stored _ OFF; bytes = f }) a
 
-  pub suspend-done : n ≡ 0 → (v : List ℕ) → v ≡ paste u PORT-AT (portBytes (withRen (portIn (part PORT-AT PORT u)) OFF)) PORT → u′ ≡ paste v REMOTE-AT (placeOf Locs ∷ []) 1 → r ≡ answerOf (number DONE)
+  pub suspend-done : n ≡ 0 → (v : List ℕ) → v ≡ paste u PORT-AT (portBytes (withRen (portOf (stateIn u)) OFF)) PORT → u′ ≡ paste v REMOTE-AT (placeOf Locs ∷ []) 1 → r ≡ answerOf (number DONE)
       → Leaves (onBytes u (quiet bus-suspend)) u′ r
-  unfolding opened stateIn soundly quietly suspend localNow
+  unfolding opened soundly quietly suspend localNow
   suspend-done z v f g a =
       let c = quiet bus-suspend in
       let e = is-sound is z in
-      leaves u (is .lent) c e _ refl u′ r (remote-put Locs .to (port-put (withRen (portIn (part PORT-AT PORT u)) OFF) .to (holds u (is .lent) e) f) g) a
+      leaves u (is .lent) c e _ refl u′ r (remote-put Locs .to (port-put (withRen (portOf (stateIn u)) OFF) .to (holds u (is .lent) e) f) g) a

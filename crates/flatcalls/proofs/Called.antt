@@ -10,7 +10,6 @@ use lib.ListN.{length}
 use Rattle.rules.specs.Answers.{UNSOUND}
 use Rattle.rules.proofs.Choice.{pick-true, pick-false, at-true, at-false, both-left, both-right, not-both}
 use Rattle.wire.specs.Bytes.{into}
-use Rattle.port.specs.Parts.{portOf}
 use Rattle.port.specs.Sound.{sound}
 use Rattle.port.specs.Answer.{number}
 use Rattle.port.specs.Device.{Result}
@@ -18,7 +17,7 @@ use Rattle.port.specs.Calls.{refused}
 use Rattle.port.specs.Step.{Call, soundly, step}
 use Rattle.port.proofs.KeepsOut.{cases}
 use Rattle.port.proofs.Calls.{step-sound, unsound-refused}
-use Rattle.flat.specs.Flat.{UNIT, PORT, PORT-AT, portIn, part, stateIn, opened, shut, isUnit, Bytes}
+use Rattle.flat.specs.Flat.{UNIT, stateIn, opened, shut, isUnit, Bytes}
 use Rattle.flat.proofs.Again.{shut-opened}
 use Rattle.flat.proofs.Puts.{Holds, opened-holds}
 use Rattle.flatcalls.specs.Promise.{isSoundUnit, Lent, Decided, Left, shutOf, keptOf, onBytes, Leaves, Fills, answerOf}
@@ -124,8 +123,3 @@ module _ (u : List ℕ) (c : Call) {x n : ℕ} (h : Decided u x UNSOUND n) (refu
 
   pub refusal-into : (b : List ℕ) → Fills (onBytes u c) b b u r
   refusal-into = kept-into u (h .lent) c n r a left
-
--- the port of the unit that these bytes are
-pub port-is : (u : List ℕ) → portIn (part PORT-AT PORT u) ≡ portOf (stateIn u)
-unfolding stateIn
-port-is u = refl

@@ -7,11 +7,10 @@ use mathlib.Core.List.{List, [], _∷_, _++_}
 use native.Mathlib.Omega.{arith}
 use lib.ListN.{length, take, drop, replicate, length-append, length-drop, length-replicate}
 use lib.Seq.{take-at, take-take, length-take-le, drop-drop}
-use Rattle.port.specs.Parts.{STORE, outOf, inOf, withIn}
-use Rattle.port.specs.Device.{Device, Result, withState, heldOf, unsentOf, zeroed}
-use Rattle.port.specs.Live.{atFront, live, alive}
+use Rattle.port.specs.Parts.{STORE, outOf, inOf}
+use Rattle.port.specs.Device.{Device, Result, heldOf, unsentOf, zeroed}
+use Rattle.port.specs.Live.{live, alive}
 use Rattle.port.specs.Laws.{Stored}
-use Rattle.port.specs.declared.types.State.{State}
 use Rattle.port.proofs.Soundness.{Sound}
 use Rattle.port.proofs.KeepsOut.{out-held}
 use Rattle.port.proofs.KeepsIn.{clears, in-split}
@@ -108,19 +107,3 @@ module _ (u : Device) (stored : Stored u) (h : Sound (u .state)) where
 
   pub same-reply : (k : ℕ) → take (inOf (u .state) .reply .unsent - k) (drop (inOf (u .state) .reply .at + k) (u .reply)) ≡ take (inOf (u .state) .reply .unsent - k) (drop (inOf (twin .state) .reply .at + k) (twin .reply))
   same-reply k = rest (u .reply) (inOf (u .state) .reply .unsent) (inOf (u .state) .reply .at) k ∙ ap (drop k) (sym (unsent-alive u stored h)) ∙ sym (twin-rest u k)
-
-  -- states that differ in the place of the reply alone, over the stores of the two
-  pub agree : (st₁ st₂ : State) → withIn st₁ (atFront (inOf st₁)) ≡ withIn st₂ (atFront (inOf st₂)) → take (outOf st₁ .message .held) (u .message) ≡ take (outOf st₂ .message .held) (twin .message)
-      → take (inOf st₁ .reply .unsent) (drop (inOf st₁ .reply .at) (u .reply)) ≡ take (inOf st₂ .reply .unsent) (drop (inOf st₂ .reply .at) (twin .reply)) → live (withState u st₁) ≡ live (withState twin st₂)
-  unfolding live
-  agree st₁ st₂ e m r = λ i. record { state = e i; message = m i; reply = r i }
-
-  -- ** nothing changes
-
-  pub all-reply : take (inOf (u .state) .reply .unsent) (drop (inOf (u .state) .reply .at) (u .reply)) ≡ take (inOf (twin .state) .reply .unsent) (drop (inOf (twin .state) .reply .at) (twin .reply))
-  unfolding alive live
-  all-reply = sym (unsent-alive u stored h)
-
-  pub still : live u ≡ live twin
-  unfolding live alive
-  still = λ i. record { state = withIn (u .state) (atFront (inOf (u .state))); message = sym (held-alive u stored h) i; reply = sym (unsent-alive u stored h) i }

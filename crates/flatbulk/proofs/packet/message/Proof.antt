@@ -1,7 +1,5 @@
 use Rattle.flatbulk.proofs.Ways.{message-fits, message-done}
-use Rattle.flatcalls.proofs.Called.{port-is}
 use borrow.Author.Needs.{needs}
-use mathlib.Core.Path.{_∙_}
 use native.Mathlib.Omega.{arith}
 use Rattle.flatbulk.proofs.packet.message.Statement.{statement}
 use Rattle.flatbulk.proofs.packet.message.Tie as tie
@@ -33,4 +31,4 @@ message-spec =
     let a = c25 .args in
     let o = c19 .before .before .out-of .ensures in
     let x = rw (c19 .before .opened .ensures, o) at (c19 .absorbed .ensures) in
-    message-done (a .u .now) (a .s .now) _ _ (a .tag) (a .size) (a .end) (a .count) (c25 .pre) _ _ _ _ (rw (c10 .before .widened .ensures .0, o) at (c10 .copy-in .ensures)) (rw x at (c6 .before .before .put-out-message .ensures)) (rw x at (c6 .put-out-transfer .ensures)) (c .before .before .before .before .put-out-recent .ensures) (rw (c .before .before .headed .ensures, c16 .port-of .ensures ∙ port-is (a .u .now), c10 .before .before .before .remote-of .ensures) at (c .before .put-remote .ensures)) (c .numbered .ensures)))
+    message-done (a .u .now) (a .s .now) _ _ (a .tag) (a .size) (a .end) (a .count) (c25 .pre) _ _ _ _ (rw (c10 .before .widened .ensures .0, o) at (c10 .copy-in .ensures)) (rw x at (c6 .before .before .put-out-message .ensures)) (rw x at (c6 .put-out-transfer .ensures)) (c .before .before .before .before .put-out-recent .ensures) (rw (c .before .before .headed .ensures, c16 .port-of .ensures, c10 .before .before .before .remote-of .ensures) at (c .before .put-remote .ensures)) (c .numbered .ensures)))

@@ -1,8 +1,7 @@
 use Rattle.flatbulk.proofs.Polled.{poll-kept, poll-fits, poll-done}
-use Rattle.flatcalls.proofs.Called.{port-is}
 use borrow.Author.Needs.{needs}
 use mathlib.Core.List.{[]}
-use mathlib.Core.Path.{refl, _∙_}
+use mathlib.Core.Path.{refl}
 use native.Mathlib.Omega.{arith}
 use Rattle.flatbulk.proofs.poll.bulk_in.Statement.{statement}
 use Rattle.flatbulk.proofs.poll.bulk_in.Tie as tie
@@ -19,11 +18,11 @@ bulk-in-spec =
     let c10 = c4 .before .before .before .before .before .before in
     let a = c10 .before .before .before .before .args in
     let is = c10 .before .poll-number .ensures in
-    (omega (arith, is .lent .long), rw (c .before .widened .ensures .0, c4 .port-of .ensures ∙ port-is (a .u .now), c4 .before .before .before .in-of .ensures) (poll-fits (a .u .now) (a .b .now) _ is (c10 .if1 .left))))
+    (omega (arith, is .lent .long), rw (c .before .widened .ensures .0, c4 .port-of .ensures, c4 .before .before .before .in-of .ensures) (poll-fits (a .u .now) (a .b .now) _ is (c10 .if1 .left))))
     (λ c κs. search needs) (λ c κs. search needs) (λ c κs. search needs) (λ c. search needs)
     (λ c.
     let c8 = c .before .before .before .before .before .before .before .before in
     let c13 = c8 .before .before .before .before .before in
     let c19 = c13 .before .before .before .before .before .before in
     let a = c19 .before .before .before .before .args in
-    poll-done (a .u .now) (a .b .now) _ (c19 .before .poll-number .ensures) _ _ _ (c19 .if1 .left) _ (rw (c8 .before .before .widened .ensures .0, c13 .port-of .ensures ∙ port-is (a .u .now), c13 .before .before .before .in-of .ensures) at (c8 .cut .ensures)) _ (c .before .before .before .put-in-reply .ensures) (c .before .put-in-transfer .ensures) (rw (c .only .ensures) refl)))
+    poll-done (a .u .now) (a .b .now) _ (c19 .before .poll-number .ensures) _ _ _ (c19 .if1 .left) _ (rw (c8 .before .before .widened .ensures .0, c13 .port-of .ensures, c13 .before .before .before .in-of .ensures) at (c8 .cut .ensures)) _ (c .before .before .before .put-in-reply .ensures) (c .before .put-in-transfer .ensures) (rw (c .only .ensures) refl)))

@@ -1,9 +1,8 @@
-use Rattle.flatcalls.proofs.Called.{port-is}
 use Rattle.flatsetup.proofs.Effects.{sets-remote}
 use Rattle.port.specs.Rows.{effected}
 use Rattle.port.specs.declared.types.Effect.the-variants.{LocksOut}
 use borrow.Author.Needs.{needs}
-use mathlib.Core.Path.{refl, _∙_}
+use mathlib.Core.Path.{refl}
 use Rattle.flatsetup.proofs.carry.locks_out.Statement.{statement}
 use Rattle.flatsetup.proofs.carry.locks_out.Tie as tie
 
@@ -16,4 +15,4 @@ locks-out-spec =
     (λ c.
     let c5 = c .before .before .before .before .before in
     let a = c5 .before .before .before .before .before .args in
-    sets-remote (a .u .now) _ LocksOut _ refl (rw (c .before .before .before .locked-out .ensures, c5 .before .before .port-of .ensures ∙ port-is (a .u .now), c5 .remote-of .ensures) at (c .before .before .put-remote .ensures))))
+    sets-remote (a .u .now) _ LocksOut _ refl (rw (c .before .before .before .locked-out .ensures, c5 .before .before .port-of .ensures, c5 .remote-of .ensures) at (c .before .before .put-remote .ensures))))

@@ -1,7 +1,5 @@
-use Rattle.flatcalls.proofs.Called.{port-is}
 use Rattle.flatsetup.proofs.Effects.{ren-on, ren-off}
 use borrow.Author.Needs.{needs}
-use mathlib.Core.Path.{_∙_}
 use Rattle.flatsetup.proofs.carry.sets_ren.Statement.{statement}
 use Rattle.flatsetup.proofs.carry.sets_ren.Tie as tie
 
@@ -13,10 +11,10 @@ sets-ren-spec =
     (λ c.
     let c5 = c .before .before .before .before .before in
     let a = c5 .before .before .before .before .args in
-    ren-on (a .u .now) _ (a .on) (c5 .if1 .taken) (rw (c .before .before .before .with-ren .ensures, c5 .before .port-of .ensures ∙ port-is (a .u .now)) at (c .before .before .put-port .ensures)))
+    ren-on (a .u .now) _ (a .on) (c5 .if1 .taken) (rw (c .before .before .before .with-ren .ensures, c5 .before .port-of .ensures) at (c .before .before .put-port .ensures)))
     (λ c κs. search needs) (λ c κs. search needs) (λ c κs. search needs) (λ c. search needs)
     (λ c.
     let c6 = c .before .before .before .before .before .before in
     let c9 = c6 .before .before .before in
     let a = c9 .before .before .before .before .args in
-    ren-off (a .u .now) _ (a .on) (c9 .if1 .left) _ (rw (c6 .before .with-ren2 .ensures, c9 .before .port-of .ensures ∙ port-is (a .u .now)) at (c6 .put-port2 .ensures)) (c .before .before .put-remote .ensures)))
+    ren-off (a .u .now) _ (a .on) (c9 .if1 .left) _ (rw (c6 .before .with-ren2 .ensures, c9 .before .port-of .ensures) at (c6 .put-port2 .ensures)) (c .before .before .put-remote .ensures)))

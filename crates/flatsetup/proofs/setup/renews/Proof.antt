@@ -1,7 +1,6 @@
-use Rattle.flatcalls.proofs.Called.{port-is}
 use Rattle.flatsetup.proofs.Ways.{renewed}
 use borrow.Author.Needs.{needs}
-use mathlib.Core.Path.{refl, _∙_}
+use mathlib.Core.Path.{refl}
 use Rattle.flatsetup.proofs.setup.renews.Statement.{statement}
 use Rattle.flatsetup.proofs.setup.renews.Tie as tie
 
@@ -10,4 +9,4 @@ renews-spec =
     tie.close
     (tie.spec
     (λ c κs. search needs) (λ c κs. search needs) (λ c κs. search needs)
-    (λ c. let a = c .before .before .before .before .before .before .before .before .args in renewed (a .u .now) (a .s .now) (a .b .now) _ _ _ (a .value) (c .before .before .before .before .before .before .before .before .pre) (rw (c .before .before .before .port-of .ensures ∙ port-is (a .u .now)) at (c .before .make .ensures)) refl (c .numbered .ensures)))
+    (λ c. let a = c .before .before .before .before .before .before .before .before .args in renewed (a .u .now) (a .s .now) (a .b .now) _ _ _ (a .value) (c .before .before .before .before .before .before .before .before .pre) (rw (c .before .before .before .port-of .ensures) at (c .before .make .ensures)) refl (c .numbered .ensures)))

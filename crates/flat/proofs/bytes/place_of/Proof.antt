@@ -1,7 +1,7 @@
 use Rattle.flat.specs.Flat.{placeOf}
 use borrow.Author.Needs.{needs}
-use Rattle.flat.proofs.put.place_of.Statement.{statement}
-use Rattle.flat.proofs.put.place_of.Tie as tie
+use Rattle.flat.proofs.bytes.place_of.Statement.{statement}
+use Rattle.flat.proofs.bytes.place_of.Tie as tie
 
 pub place-of-spec : {M : Type 1} → statement M
 unfolding placeOf

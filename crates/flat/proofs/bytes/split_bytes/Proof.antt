@@ -1,7 +1,7 @@
 use Rattle.flat.specs.Flat.{kindOf, countOf}
 use borrow.Author.Needs.{needs}
-use Rattle.flat.proofs.put.split_bytes.Statement.{statement}
-use Rattle.flat.proofs.put.split_bytes.Tie as tie
+use Rattle.flat.proofs.bytes.split_bytes.Statement.{statement}
+use Rattle.flat.proofs.bytes.split_bytes.Tie as tie
 
 pub split-bytes-spec : {M : Type 1} → statement M
 unfolding kindOf countOf

@@ -2,8 +2,8 @@ use Rattle.flat.proofs.Numbered.{past-three}
 use Rattle.flat.specs.Flat.{splitOf}
 use borrow.Author.Needs.{needs}
 use mathlib.Core.Path.{refl}
-use Rattle.flat.proofs.read.split_in.Statement.{statement}
-use Rattle.flat.proofs.read.split_in.Tie as tie
+use Rattle.flat.proofs.bytes.split_in.Statement.{statement}
+use Rattle.flat.proofs.bytes.split_in.Tie as tie
 
 pub split-in-spec : {M : Type 1} → statement M
 unfolding splitOf

@@ -1,7 +1,7 @@
 use Rattle.rules.proofs.Choice.{picks}
 use borrow.Author.Needs.{needs}
-use Rattle.flat.proofs.read.is_split.Statement.{statement}
-use Rattle.flat.proofs.read.is_split.Tie as tie
+use Rattle.flat.proofs.bytes.is_split.Statement.{statement}
+use Rattle.flat.proofs.bytes.is_split.Tie as tie
 
 pub is-split-spec : {M : Type 1} → statement M
 is-split-spec =

@@ -1,6 +1,6 @@
 use borrow.Author.Needs.{needs}
-use Rattle.flat.proofs.read.in_transfer_in.Statement.{statement}
-use Rattle.flat.proofs.read.in_transfer_in.Tie as tie
+use Rattle.flat.proofs.bytes.in_transfer_in.Statement.{statement}
+use Rattle.flat.proofs.bytes.in_transfer_in.Tie as tie
 
 pub in-transfer-in-spec : {M : Type 1} → statement M
 in-transfer-in-spec =

@@ -1,6 +1,6 @@
 use borrow.Author.Needs.{needs}
-use Rattle.flat.proofs.put.in_transfer_bytes.Statement.{statement}
-use Rattle.flat.proofs.put.in_transfer_bytes.Tie as tie
+use Rattle.flat.proofs.bytes.in_transfer_bytes.Statement.{statement}
+use Rattle.flat.proofs.bytes.in_transfer_bytes.Tie as tie
 
 pub in-transfer-bytes-spec : {M : Type 1} → statement M
 in-transfer-bytes-spec =
