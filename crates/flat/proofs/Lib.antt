@@ -3,5 +3,3 @@ pub mod Again
 pub mod Narrow
 pub mod Numbered
 pub mod Parted
-pub mod Pastes
-pub mod Puts

@@ -1,5 +1,3 @@
-// The unit in bytes, as C holds it.
-pub mod bytes; // the bytes of a part
+// The bytes of a unit, as C holds it.
+pub mod bytes; // those of a part
 pub mod places; // where a part stands
-pub mod put; // a part put in its place
-pub mod read; // a part from its place

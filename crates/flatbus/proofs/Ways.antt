@@ -17,7 +17,7 @@ use Rattle.port.specs.Step.{Call, quiet, bus-reset, bus-suspend, quietly, sound
 use Rattle.port.specs.declared.types.Setting.{Setting}
 use Rattle.port.specs.declared.types.Remote.the-variants.{Locs}
 use Rattle.flat.specs.Flat.{PORT, PORT-AT, REMOTE-AT, portBytes, placeOf, stateIn, opened, shut}
-use Rattle.flat.proofs.Puts.{port-put, remote-put}
+use Rattle.flatparts.proofs.Puts.{port-put, remote-put}
 use Rattle.flatcalls.specs.Promise.{IsNumber, shutOf, onBytes, answerOf, Leaves}
 use Rattle.flatcalls.specs.declared.types.Answer.{Answer}
 use Rattle.flatcalls.proofs.Called.{holds, leaves, refusal, is-sound}

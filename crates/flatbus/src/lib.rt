@@ -1,9 +1,9 @@
 // Power-on, and the bus's calls, on the unit in bytes.
 use flat::places::UNIT;
-use flat::put::put_port;
-use flat::put::put_remote;
-use flat::read::is_sound;
-use flat::read::port_of;
+use flatparts::put::put_port;
+use flatparts::put::put_remote;
+use flatparts::read::is_sound;
+use flatparts::read::port_of;
 use flatcalls::answer::numbered;
 use flatcalls::make::make;
 use flatcalls::types::Answer;

@@ -19,7 +19,7 @@ use Rattle.port.proofs.KeepsOut.{cases}
 use Rattle.port.proofs.Calls.{step-sound, unsound-refused}
 use Rattle.flat.specs.Flat.{UNIT, stateIn, opened, shut, isUnit, Bytes}
 use Rattle.flat.proofs.Again.{shut-opened}
-use Rattle.flat.proofs.Puts.{Holds, opened-holds}
+use Rattle.flatparts.proofs.Puts.{Holds, opened-holds}
 use Rattle.flatcalls.specs.Promise.{isSoundUnit, Lent, Decided, Left, shutOf, keptOf, onBytes, Leaves, Fills, answerOf}
 use Rattle.flatcalls.specs.declared.types.Answer.{Answer}
 

@@ -13,7 +13,7 @@ use Rattle.port.specs.declared.types.Setting.{Setting}
 use Rattle.port.specs.declared.types.State.{State}
 use Rattle.flat.specs.Flat.{PORT-AT, UNIT, bytesOf, shut}
 use Rattle.flat.specs.Sides.{STATE}
-use Rattle.flat.proofs.Pastes.{paste-left, paste-right, paste-all}
+use Rattle.flatparts.proofs.Pastes.{paste-left, paste-right, paste-all}
 use Rattle.flat.proofs.Parted.{bytes-long}
 
 abbrev zeros : List ℕ

@@ -1,8 +1,8 @@
 // A unit made in lent bytes, whatever they were.
 use flat::places::PORT_AT;
 use flat::places::UNIT;
-use flat::put::put_state;
-use flat::put::wipe;
+use flatparts::put::put_state;
+use flatparts::put::wipe;
 use port::types::Setting;
 use state::parts::fresh;
 ghost use mathlib.Core.Path.{_≡_};

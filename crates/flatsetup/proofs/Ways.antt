@@ -22,12 +22,12 @@ use Rattle.control.specs.Replied.{repliedOf}
 use Rattle.control.specs.declared.types.Replied.{Replied}
 use Rattle.control.proofs.Serving.{answers-roomy}
 use Rattle.flat.specs.Flat.{stateIn, opened, shut}
-use Rattle.flat.proofs.Puts.{Holds}
+use Rattle.flatparts.proofs.Puts.{Holds}
 use Rattle.flatcalls.specs.Promise.{SetupComesTo, onBytes, answerOf, Fills}
 use Rattle.flatcalls.specs.declared.types.Answer.{Answer}
 use Rattle.flatcalls.proofs.Called.{holds, fills, stays, kept-into, sound-unit, comes}
 use Rattle.flatcalls.proofs.Made.{made-stored}
-use Rattle.flatsetup.specs.Does.{Does}
+use Rattle.flateffects.specs.Does.{Does}
 
 renews-other : {value : ℕ} → Renews value ≡ Denies UNSOUND → ⊥
 renews-other e = let z : _≡_ {A = ℕ} 0 1 = cc in omega arith

@@ -1,11 +1,11 @@
 // The call.
-use crate::carry::carry;
+use flateffects::carry::carry;
 use control::serve::reply;
 use control::serve::setup_outcome;
 use flat::places::UNIT;
-use flat::read::is_sound;
-use flat::read::port_of;
-use flat::read::state_of;
+use flatparts::read::is_sound;
+use flatparts::read::port_of;
+use flatparts::read::state_of;
 use flatcalls::answer::numbered;
 use flatcalls::make::make;
 use flatcalls::types::Answer;

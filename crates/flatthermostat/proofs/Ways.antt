@@ -19,7 +19,7 @@ use Rattle.port.specs.Step.{quiet, take-into, offer-reply, set-status, front-pa
 use Rattle.port.proofs.Calls.{unstored}
 use Rattle.messages.proofs.MessageLaws.{take-refused, take-done, take-fits, offer-refused, offer-done, offer-fits}
 use Rattle.flat.specs.Flat.{PORT, OUT-MESSAGE, IN-REPLY, REPLY-AT, PORT-AT, REMOTE-AT, OUT-MESSAGE-AT, IN-REPLY-AT, portBytes, placeOf, outMessageBytes, inReplyBytes, stateIn, opened}
-use Rattle.flat.proofs.Puts.{port-put, remote-put, out-message-put, in-reply-put, reply-put}
+use Rattle.flatparts.proofs.Puts.{port-put, remote-put, out-message-put, in-reply-put, reply-put}
 use Rattle.flatcalls.specs.Promise.{IsNumber, onBytes, answerOf, Leaves, Fills}
 use Rattle.flatcalls.specs.declared.types.Answer.{Answer}
 use Rattle.flatcalls.proofs.Called.{holds, leaves, fills, refusal, refusal-into, is-sound, by-rules, state-sound}

@@ -1,7 +1,7 @@
 // The port as C calls it: include/tewennos.h says what each function is for. A unit is 2,084 bytes in C's memory, altered where they stand.
 use flat::places::UNIT;
-use flatbulk::packet::bulk_out;
-use flatbulk::poll::bulk_in;
+use flatpackets::packet::bulk_out;
+use flatpolls::poll::bulk_in;
 use flatbus::bus_reset;
 use flatbus::power_on;
 use flatbus::suspend;

@@ -1,6 +1,0 @@
-use borrow.Author.Needs.{needs}
-use Rattle.flat.proofs.put.put_out_message.Statement.{statement}
-use Rattle.flat.proofs.put.put_out_message.Tie as tie
-
-pub put-out-message-spec : {M : Type 1} → statement M
-put-out-message-spec = tie.close (tie.spec (λ c κs. search needs) (λ c. search needs) (λ c κs. search needs) (λ c. search needs) (λ c. cc))

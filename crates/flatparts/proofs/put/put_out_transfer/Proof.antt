@@ -1,0 +1,6 @@
+use borrow.Author.Needs.{needs}
+use Rattle.flatparts.proofs.put.put_out_transfer.Statement.{statement}
+use Rattle.flatparts.proofs.put.put_out_transfer.Tie as tie
+
+pub put-out-transfer-spec : {M : Type 1} → statement M
+put-out-transfer-spec = tie.close (tie.spec (λ c κs. search needs) (λ c. search needs) (λ c κs. search needs) (λ c. search needs) (λ c. cc))

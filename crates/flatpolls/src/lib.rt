@@ -1,0 +1,2 @@
+// A Bulk-IN poll, on the unit in bytes: it is decided over the state, and writes no more than the parts that it sets.
+pub mod poll;
