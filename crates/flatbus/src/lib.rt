@@ -1,12 +1,12 @@
 // Power-on, and the bus's calls, on the unit in bytes.
 use flat::places::UNIT;
+use flatcalls::answer::numbered;
+use flatcalls::make::make;
+use flatcalls::types::Answer;
 use flatparts::put::put_port;
 use flatparts::put::put_remote;
 use flatparts::read::is_sound;
 use flatparts::read::port_of;
-use flatcalls::answer::numbered;
-use flatcalls::make::make;
-use flatcalls::types::Answer;
 use port::types::FULL_SPEED;
 use port::types::Remote;
 use port::types::Setting;

@@ -1,5 +1,7 @@
 // A Bulk-OUT packet, on the unit in bytes.
 use flat::places::UNIT;
+use flatcalls::answer::numbered;
+use flatcalls::types::Answer;
 use flatparts::put::put_in_recent;
 use flatparts::put::put_in_transfer;
 use flatparts::put::put_out;
@@ -13,8 +15,6 @@ use flatparts::read::out_of;
 use flatparts::read::port_of;
 use flatparts::read::remote_of;
 use flatparts::read::state_of;
-use flatcalls::answer::numbered;
-use flatcalls::types::Answer;
 use outcomes::outcome::outcome;
 use packets::sides::absorbed;
 use packets::sides::opened;

@@ -2,14 +2,14 @@
 use flat::places::PORT_AT;
 use flat::places::REPLY_AT;
 use flat::places::UNIT;
+use flatcalls::answer::numbered;
+use flatcalls::types::Answer;
 use flatparts::put::put_in_reply;
 use flatparts::put::put_in_transfer;
 use flatparts::read::in_of;
 use flatparts::read::is_sound;
 use flatparts::read::port_of;
 use flatparts::read::state_of;
-use flatcalls::answer::numbered;
-use flatcalls::types::Answer;
 use polls::poll::in_gate;
 use polls::poll::next_packet;
 use polls::types::InPacket;

@@ -1,14 +1,14 @@
 // The call.
-use flateffects::carry::carry;
 use control::serve::reply;
 use control::serve::setup_outcome;
 use flat::places::UNIT;
-use flatparts::read::is_sound;
-use flatparts::read::port_of;
-use flatparts::read::state_of;
 use flatcalls::answer::numbered;
 use flatcalls::make::make;
 use flatcalls::types::Answer;
+use flateffects::carry::carry;
+use flatparts::read::is_sound;
+use flatparts::read::port_of;
+use flatparts::read::state_of;
 use port::types::SetupOutcome;
 use rules::DONE;
 use rules::UNSOUND;

@@ -1,7 +1,7 @@
 -- What each of the thermostat's calls leaves, by the way that its code takes.
 -- Assumes nothing.
 use Prim.Native.Nat.{ℕ, _≤_}
-use mathlib.Core.Path.{_≡_, sym, ap, _∙_}
+use mathlib.Core.Path.{_≡_, sym, ap, _∙_, subst}
 use mathlib.Core.List.{List, [], _∷_}
 use native.Mathlib.Omega.{arith}
 use lib.ListN.{length, take, length-take}
@@ -10,16 +10,17 @@ use Rattle.rules.specs.Answers.{DONE, only}
 use Rattle.rules.proofs.Choice.{refuses, passes}
 use Rattle.wire.specs.Bytes.{into}
 use Rattle.wire.proofs.Fronts.{front-pasted}
-use Rattle.port.specs.Parts.{STORE, withStatus, noMessage, portOf, outOf}
+use Rattle.port.specs.Parts.{STORE, withStatus, withRemote, noMessage, portOf, outOf}
 use Rattle.port.specs.Remote.{byPanel}
 use Rattle.port.specs.Answer.{number, refuse}
-use Rattle.port.specs.Device.{heldOf}
+use Rattle.port.specs.Device.{heldOf, withState}
 use Rattle.port.specs.Calls.{said, takeRules, released, take-message, offerRules, offered, withReply, offer, thermostatRules, statusSet, setStatus, returned, panel}
 use Rattle.port.specs.Step.{quiet, take-into, offer-reply, set-status, front-panel, quietly, soundly}
+use Rattle.port.specs.declared.types.Remote.{Remote}
 use Rattle.port.proofs.Calls.{unstored}
 use Rattle.messages.proofs.MessageLaws.{take-refused, take-done, take-fits, offer-refused, offer-done, offer-fits}
 use Rattle.flat.specs.Flat.{PORT, OUT-MESSAGE, IN-REPLY, REPLY-AT, PORT-AT, REMOTE-AT, OUT-MESSAGE-AT, IN-REPLY-AT, portBytes, placeOf, outMessageBytes, inReplyBytes, stateIn, opened}
-use Rattle.flatparts.proofs.Puts.{port-put, remote-put, out-message-put, in-reply-put, reply-put}
+use Rattle.flatparts.proofs.Puts.{Holds, port-put, remote-put, out-message-put, in-reply-put, reply-put}
 use Rattle.flatcalls.specs.Promise.{IsNumber, onBytes, answerOf, Leaves, Fills}
 use Rattle.flatcalls.specs.declared.types.Answer.{Answer}
 use Rattle.flatcalls.proofs.Called.{holds, leaves, fills, refusal, refusal-into, is-sound, by-rules, state-sound}
@@ -46,13 +47,22 @@ module _ (u : List ℕ) (n : ℕ) (u′ : List ℕ) (r : Answer) where
     unfolding opened soundly quietly panel returned
     panel-refused e a = refusal u (quiet front-panel) is (λ _ g. sym (ap (said (opened u)) (refuses (refuse (stateIn u)) (thermostatRules (stateIn u)) _ n tt g e))) r a
 
-    pub panel-done : n ≡ 0 → u′ ≡ paste u REMOTE-AT (placeOf (byPanel (stateIn u .remote)) ∷ []) 1 → r ≡ answerOf (number DONE) → Leaves (onBytes u (quiet front-panel)) u′ r
-    unfolding opened soundly quietly panel returned
-    panel-done z f a =
-        let c = quiet front-panel in
-        let e = is-sound is z in
-        leaves u (is .lent) c e _ (sym (ap (said (opened u)) (passes (refuse (stateIn u)) (thermostatRules (stateIn u)) _ n tt (by-rules is z) z))) u′ r
-        (remote-put (byPanel (stateIn u .remote)) .to (holds u (is .lent) e) f) a
+    module _ (z : n ≡ 0) (x : Remote) (from : stateIn u .remote ≡ x) (a : r ≡ answerOf (number DONE)) where
+      goes : Holds (withState (opened u) (withRemote (stateIn u) (byPanel x))) u′ → Leaves (onBytes u (quiet front-panel)) u′ r
+      unfolding opened soundly quietly panel returned
+      goes h =
+          leaves u (is .lent) (quiet front-panel) (is-sound is z) _ (sym (ap (said (opened u)) (passes (refuse (stateIn u)) (thermostatRules (stateIn u)) _ n tt (by-rules is z) z))) u′ r
+          (subst (λ (y : Remote). Holds (withState (opened u) (withRemote (stateIn u) (byPanel y))) u′) (sym from) h) a
+
+      pub panel-goes : u′ ≡ paste u REMOTE-AT (placeOf (byPanel x) ∷ []) 1 → Leaves (onBytes u (quiet front-panel)) u′ r
+      unfolding opened
+      panel-goes f = goes (remote-put (byPanel x) .to (holds u (is .lent) (is-sound is z)) f)
+
+      pub panel-stays : byPanel x ≡ x → u′ ≡ u → Leaves (onBytes u (quiet front-panel)) u′ r
+      unfolding opened
+      panel-stays same f =
+          goes (subst (λ (v : List ℕ). Holds (withState (opened u) (withRemote (stateIn u) (byPanel x))) v) (sym f)
+          (subst (λ (y : Remote). Holds (withState (opened u) (withRemote (stateIn u) y)) u) (from ∙ sym same) (holds u (is .lent) (is-sound is z))))
 
   -- ** a take
 

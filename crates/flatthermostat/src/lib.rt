@@ -2,6 +2,8 @@
 use calls::thermostat::thermostat_gate;
 use flat::places::REPLY_AT;
 use flat::places::UNIT;
+use flatcalls::answer::numbered;
+use flatcalls::types::Answer;
 use flatparts::put::put_in_reply;
 use flatparts::put::put_out_message;
 use flatparts::put::put_port;
@@ -11,12 +13,10 @@ use flatparts::read::out_of;
 use flatparts::read::port_of;
 use flatparts::read::remote_of;
 use flatparts::read::state_of;
-use flatcalls::answer::numbered;
-use flatcalls::types::Answer;
 use messages::offer::offer_gate;
 use messages::take::take_gate;
 use port::types::InReply;
-use remote::remote::by_panel;
+use port::types::Remote;
 use rules::DONE;
 use rules::UNSOUND;
 use rules::verdict::only;
@@ -117,6 +117,13 @@ pub fn panel(u: &mut [u8; UNIT]) -> Answer
         return numbered(number);
     }
     let r = remote_of(u);
-    put_remote(u, by_panel(r));
-    numbered(DONE)
+    match r {
+        Remote::Rems => {
+            put_remote(u, Remote::Locs);
+            numbered(DONE)
+        }
+        Remote::Locs => numbered(DONE),
+        Remote::Lwls => numbered(DONE),
+        Remote::Rwls => numbered(DONE),
+    }
 }

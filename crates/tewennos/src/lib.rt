@@ -1,11 +1,11 @@
 // The port as C calls it: include/tewennos.h says what each function is for. A unit is 2,084 bytes in C's memory, altered where they stand.
 use flat::places::UNIT;
-use flatpackets::packet::bulk_out;
-use flatpolls::poll::bulk_in;
 use flatbus::bus_reset;
 use flatbus::power_on;
 use flatbus::suspend;
 use flatcalls::types::Answer;
+use flatpackets::packet::bulk_out;
+use flatpolls::poll::bulk_in;
 use flatsetup::setup::setup;
 use flatthermostat::offer;
 use flatthermostat::panel;

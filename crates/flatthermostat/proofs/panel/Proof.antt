@@ -1,6 +1,7 @@
-use Rattle.flatthermostat.proofs.Ways.{panel-refused, panel-done}
+use Rattle.flatthermostat.proofs.Ways.{panel-refused, panel-goes, panel-stays}
 use borrow.Author.Needs.{needs}
 use mathlib.Core.List.{[]}
+use mathlib.Core.Path.{refl, sym, _∙_}
 use Rattle.flatthermostat.proofs.panel.Statement.{statement}
 use Rattle.flatthermostat.proofs.panel.Tie as tie
 
@@ -10,7 +11,11 @@ panel-spec =
     (tie.spec
     (λ c κs. search needs) (λ c κs. search needs)
     (λ c. panel-refused (c .before .before .before .before .args .u .now) _ [] _ (c .before .before .thermostat-number .ensures) (c .before .if1 .taken) (c .numbered .ensures))
-    (λ c κs. search needs) (λ c κs. search needs) (λ c κs. search needs) (λ c κs. search needs)
+    (λ c κs. search needs) (λ c. search needs) (λ c κs. search needs) (λ c κs. search needs) (λ c. search needs) (λ c κs. search needs) (λ c. search needs)
+    (λ c κs. search needs) (λ c. search needs) (λ c κs. search needs)
     (λ c.
-    let c7 = c .before .before .before .before .before .before .before in
-    panel-done (c7 .before .before .before .args .u .now) _ _ _ (c7 .before .thermostat-number .ensures) (c7 .if1 .left) (rw (c .before .before .by-panel .ensures, c .before .before .before .before .remote-of .ensures) at (c .before .put-remote .ensures)) (c .numbered2 .ensures)))
+    let c8 = c .before .before .before .before .before .before .before .before in
+    panel-goes (c8 .before .before .before .args .u .now) _ _ _ (c8 .before .thermostat-number .ensures) (c8 .if1 .left) _ (sym (c .before .before .before .before .before .remote-of .ensures) ∙ c .before .before .before .enum-told .given .1) (c .numbered2 .ensures) (c .before .put-remote .ensures))
+    (λ c. let c6 = c .before .before .before .before .before .before in panel-stays (c6 .before .before .before .args .u .now) _ _ _ (c6 .before .thermostat-number .ensures) (c6 .if1 .left) _ (sym (c .before .before .before .remote-of .ensures) ∙ c .before .enum-told2 .given .1) (c .numbered3 .ensures) refl refl)
+    (λ c. let c6 = c .before .before .before .before .before .before in panel-stays (c6 .before .before .before .args .u .now) _ _ _ (c6 .before .thermostat-number .ensures) (c6 .if1 .left) _ (sym (c .before .before .before .remote-of .ensures) ∙ c .before .enum-told3 .given .1) (c .numbered4 .ensures) refl refl)
+    (λ c. let c6 = c .before .before .before .before .before .before in panel-stays (c6 .before .before .before .args .u .now) _ _ _ (c6 .before .thermostat-number .ensures) (c6 .if1 .left) _ (sym (c .before .before .before .remote-of .ensures) ∙ c .before .enum-told4 .given .1) (c .numbered5 .ensures) refl refl))
