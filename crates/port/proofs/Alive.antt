@@ -11,7 +11,8 @@ use Rattle.port.specs.Parts.{STORE, outOf, inOf}
 use Rattle.port.specs.Device.{Device, Result, heldOf, unsentOf, zeroed}
 use Rattle.port.specs.Live.{live, alive}
 use Rattle.port.specs.Laws.{Stored}
-use Rattle.port.proofs.Soundness.{Sound}
+use Rattle.port.specs.Sound.{unasked, unsending, idle, askedSound, sendingSound, phaseSound}
+use Rattle.port.proofs.Soundness.{Sound, phase-of, phase-to}
 use Rattle.port.proofs.KeepsOut.{out-held}
 use Rattle.port.proofs.KeepsIn.{clears, in-split}
 
@@ -62,14 +63,14 @@ module _ (u : Device) (stored : Stored u) (h : Sound (u .state)) where
   }
 
   pub alive-sound : Sound (alive (live u) .state)
-  unfolding alive live
+  unfolding alive live phaseSound idle unasked unsending askedSound sendingSound
   alive-sound = record {
     port = h .port;
     out = h .out;
     inward = record {
       halted = h .inward .halted;
       reply = let r = h .inward .reply in omega arith;
-      phase = h .inward .phase;
+      phase = phase-of _ _ (phase-to (inOf (u .state) .reply .unsent) (inOf (u .state) .transfer) (h .inward .phase));
     };
     split = in-split (u .state .split) _ (inOf (u .state)) _ (h .split) (λ e. e) (λ e. let c = clears (u .state) h e in (c .unsent, c .in-tag, c .phase));
   }

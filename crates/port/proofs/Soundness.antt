@@ -312,7 +312,7 @@ phase-kept unsent unsent′ t k (is-sending e a) =
     is-sending e (record { tag = a .tag; stored = let w = k e in let m = a .stored in omega arith; count = a .count; asked = a .asked; enabled = a .enabled; term = a .term })
 phase-kept unsent unsent′ t k (is-owed e z i) = is-owed e z i
 
-phase-of : (unsent : ℕ) (t : InTransfer) → phaseSound unsent t ≡ true → Phase unsent t
+pub phase-of : (unsent : ℕ) (t : InTransfer) → phaseSound unsent t ≡ true → Phase unsent t
 unfolding phaseSound
 phase-of unsent t =
     pick-all P (t .phase =ᵇ CLOSED) _ _ (λ p e. let h = all-of (t .tag =ᵇ 0 & idle t & []) e in is-closed (eqb-true _ _ p) (eqb-true _ _ (h .0)) (idle-of t (h .1 .0)))
@@ -330,7 +330,7 @@ phase-line : (unsent : ℕ) (t : InTransfer) (phase : ℕ) → t .phase ≡ phas
 unfolding phaseSound
 phase-line unsent t phase e = rw e
 
-phase-to : (unsent : ℕ) (t : InTransfer) → Phase unsent t → phaseSound unsent t ≡ true
+pub phase-to : (unsent : ℕ) (t : InTransfer) → Phase unsent t → phaseSound unsent t ≡ true
 unfolding pick
 phase-to unsent t (is-closed e z i) = phase-line unsent t CLOSED e ∙ of-all (t .tag =ᵇ 0 & idle t & []) (eq-eqb _ _ z, (idle-to t i, tt))
 phase-to unsent t (is-asked e h) = phase-line unsent t ASKED e ∙ asked-to t h

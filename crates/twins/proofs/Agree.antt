@@ -251,7 +251,7 @@ module _ (u : Device) (stored : Stored u) (h : Sound (u .state)) where
       (λ _. (refl, refl, whole-message, rest))
 
   send-agrees : (x : List ℕ) → Saids (sends (u .state) (nextPacket (packetSize (u .state)) (inOf (u .state)) x)) (sends (w .state) (nextPacket (packetSize (w .state)) (inOf (w .state)) x))
-  unfolding nextPacket send toGo started fixed shut alive live
+  unfolding nextPacket send toGo started fixed gone shut alive live
   send-agrees x =
       let b = inOf (u .state) in
       pick-both (λ (p q : Packet). Saids (sends (u .state) p) (sends (w .state) q)) (isOwed b) _ _ _ _ (λ _. (refl, refl, whole-message, whole-reply))

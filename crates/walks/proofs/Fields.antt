@@ -2,6 +2,7 @@
 -- Assumes nothing.
 use Prim.Native.Nat.{ℕ, _+_}
 use mathlib.Core.Path.{refl}
+use prog.Memory.{size}
 use mir.Syntax.{tyArray, tyInt, w8, w64}
 use Rattle.unit.proofs.types.Unit.Laws as T′
 use Rattle.port.proofs.types.State.Laws as S′
@@ -15,7 +16,7 @@ use Rattle.walks.proofs.Walks.{At}
 
 -- how many bytes `Small` has
 abbrev small : ℕ
-small = 34
+small = size L′.mir
 
 pub unit-message : At T′.mir 0 (tyArray (tyInt w8) 1024) 0
 unit-message = refl
