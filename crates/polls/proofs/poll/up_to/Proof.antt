@@ -1,4 +1,4 @@
--- `steps::poll::up_to` meets its contract: after i turns no byte passed is the TermChar.
+-- `polls::poll::up_to` meets its contract: after i turns no byte passed is the TermChar.
 use Prim.Native.Nat.{_+_, _-_, _≤_}
 use mathlib.Core.Path.{_≡_}
 use native.Mathlib.Omega.{arith}

@@ -1,4 +1,4 @@
--- `lines::numbers::decimal` is safe and ends: the index stays within the word.
+-- `words::numbers::decimal` is safe and ends: the index stays within the word.
 use Prim.Native.Nat.{_≤_, _-_}
 use borrow.Author.Needs.{needs}
 use lib.ListN.{length}

@@ -1,4 +1,4 @@
--- `lines::numbers::pairs` is safe and ends: each turn reads two bytes of the word, and the lent bytes keep their length.
+-- `words::numbers::pairs` is safe and ends: each turn reads two bytes of the word, and the lent bytes keep their length.
 use Prim.Native.Nat.{_≤_, _-_}
 use mathlib.Core.Path.{_≡_}
 use borrow.Author.Needs.{needs}

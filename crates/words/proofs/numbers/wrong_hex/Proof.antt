@@ -1,4 +1,4 @@
--- `lines::numbers::wrong_hex` is safe and ends: the index stays within the word.
+-- `words::numbers::wrong_hex` is safe and ends: the index stays within the word.
 use Prim.Native.Nat.{_≤_, _-_}
 use borrow.Author.Needs.{needs}
 use lib.ListN.{length}

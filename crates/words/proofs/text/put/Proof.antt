@@ -1,4 +1,4 @@
--- `lines::text::put` is safe and ends: the index stays within the text, and the output keeps its length.
+-- `words::text::put` is safe and ends: the index stays within the text, and the output keeps its length.
 use Prim.Native.Nat.{_≤_, _-_}
 use mathlib.Core.Path.{_≡_}
 use borrow.Author.Needs.{needs}

@@ -1,4 +1,4 @@
--- `lines::text::put_hex` is safe and ends: the index stays within the bytes, and the output keeps its length.
+-- `words::text::put_hex` is safe and ends: the index stays within the bytes, and the output keeps its length.
 use Prim.Native.Nat.{_≤_, _-_}
 use mathlib.Core.Path.{_≡_}
 use borrow.Author.Needs.{needs}

@@ -1,4 +1,4 @@
--- `lines::words::find` meets its contract: the place that is looked at lies between where it starts and the end.
+-- `words::words::find` meets its contract: the place that is looked at lies between where it starts and the end.
 use Prim.Native.Nat.{_≤_, _-_}
 use borrow.Author.Needs.{needs}
 use lib.ListN.{length}

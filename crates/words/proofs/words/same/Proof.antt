@@ -1,4 +1,4 @@
--- `lines::words::same` is safe and ends: the index stays within both, which are equally long.
+-- `words::words::same` is safe and ends: the index stays within both, which are equally long.
 use Prim.Native.Nat.{_≤_, _-_}
 use borrow.Author.Needs.{needs}
 use lib.ListN.{length}

@@ -1,4 +1,4 @@
--- `lines::words::word_end` is safe and ends: what is left of the text falls.
+-- `words::words::word_end` is safe and ends: what is left of the text falls.
 use Prim.Native.Nat.{_≤_, _-_}
 use borrow.Author.Needs.{needs}
 use lib.ListN.{length}
