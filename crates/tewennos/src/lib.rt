@@ -1,4 +1,4 @@
-// The port as C calls it: include/tewennos.h says what each function is for. A unit is 2,084 bytes in C's memory, altered where they stand.
+// The port as C calls it: include/tewennos.h says what each function is for. A unit is bytes in C's memory, altered where they stand.
 use flat::places::UNIT;
 use flatbus::bus_reset;
 use flatbus::power_on;

@@ -14,4 +14,5 @@ bus-reset-spec =
     (λ c κs. search needs) (λ c κs. search needs) (λ c κs. search needs)
     (λ c.
     let c6 = c .before .before .before .before .before .before in
-    reset-done (c6 .before .before .before .args .u .now) _ (c6 .before .bus-number .ensures) _ _ (c6 .if1 .left) (rw (c .before .before .before .port-of .ensures) at (c .before .make .ensures)) (c .numbered2 .ensures)))
+    reset-done (c6 .before .before .before .args .u .now) _ (c6 .before .bus-number .ensures) _ _ (c6 .if1 .left)
+    (rw (c .before .before .before .port-of .ensures) at (c .before .make .ensures)) (c .numbered2 .ensures)))

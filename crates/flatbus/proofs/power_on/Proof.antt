@@ -9,6 +9,8 @@ power-on-spec =
     tie.close
     (tie.spec
     (λ c κs. search needs) (λ c κs. search needs) (λ c κs. search needs)
-    (λ c. powered (c .before .before .before .before .before .args .packet) _ _ (sym (c .before .before .before .before .is-size .ensures) ∙ c .before .before .before .if1 .taken) (c .before .make .ensures) (c .numbered .ensures))
+    (λ c. powered (c .before .before .before .before .before .args .packet) _ _ (sym (c .before .before .before .before .is-size .ensures) ∙ c .before .before .before .if1 .taken)
+    (c .before .make .ensures) (c .numbered .ensures))
     (λ c κs. search needs) (λ c κs. search needs)
-    (λ c. unpowered (c .before .before .before .before .before .args .packet) _ _ (sym (c .before .before .before .before .is-size .ensures) ∙ c .before .before .before .if1 .left) (c .before .make2 .ensures) (c .numbered2 .ensures)))
+    (λ c. unpowered (c .before .before .before .before .before .args .packet) _ _
+    (sym (c .before .before .before .before .is-size .ensures) ∙ c .before .before .before .if1 .left) (c .before .make2 .ensures) (c .numbered2 .ensures)))

@@ -15,4 +15,5 @@ suspend-spec =
     (λ c.
     let c3 = c .before .before .before in
     let c9 = c3 .before .before .before .before .before .before in
-    suspend-done (c9 .before .before .before .args .u .now) _ (c9 .before .bus-number .ensures) _ _ (c9 .if1 .left) _ (rw (c3 .before .with-ren .ensures, c3 .before .before .before .port-of .ensures) at (c3 .put-port .ensures)) (c .before .put-remote .ensures) (c .numbered2 .ensures)))
+    suspend-done (c9 .before .before .before .args .u .now) _ (c9 .before .bus-number .ensures) _ _ (c9 .if1 .left) _
+    (rw (c3 .before .with-ren .ensures, c3 .before .before .before .port-of .ensures) at (c3 .put-port .ensures)) (c .before .put-remote .ensures) (c .numbered2 .ensures)))

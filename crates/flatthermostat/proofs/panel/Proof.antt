@@ -15,7 +15,17 @@ panel-spec =
     (λ c κs. search needs) (λ c. search needs) (λ c κs. search needs)
     (λ c.
     let c8 = c .before .before .before .before .before .before .before .before in
-    panel-goes (c8 .before .before .before .args .u .now) _ _ _ (c8 .before .thermostat-number .ensures) (c8 .if1 .left) _ (sym (c .before .before .before .before .before .remote-of .ensures) ∙ c .before .before .before .enum-told .given .1) (c .numbered2 .ensures) (c .before .put-remote .ensures))
-    (λ c. let c6 = c .before .before .before .before .before .before in panel-stays (c6 .before .before .before .args .u .now) _ _ _ (c6 .before .thermostat-number .ensures) (c6 .if1 .left) _ (sym (c .before .before .before .remote-of .ensures) ∙ c .before .enum-told2 .given .1) (c .numbered3 .ensures) refl refl)
-    (λ c. let c6 = c .before .before .before .before .before .before in panel-stays (c6 .before .before .before .args .u .now) _ _ _ (c6 .before .thermostat-number .ensures) (c6 .if1 .left) _ (sym (c .before .before .before .remote-of .ensures) ∙ c .before .enum-told3 .given .1) (c .numbered4 .ensures) refl refl)
-    (λ c. let c6 = c .before .before .before .before .before .before in panel-stays (c6 .before .before .before .args .u .now) _ _ _ (c6 .before .thermostat-number .ensures) (c6 .if1 .left) _ (sym (c .before .before .before .remote-of .ensures) ∙ c .before .enum-told4 .given .1) (c .numbered5 .ensures) refl refl))
+    panel-goes (c8 .before .before .before .args .u .now) _ _ _ (c8 .before .thermostat-number .ensures) (c8 .if1 .left) _
+    (sym (c .before .before .before .before .before .remote-of .ensures) ∙ c .before .before .before .enum-told .given .1) (c .numbered2 .ensures) (c .before .put-remote .ensures))
+    (λ c.
+    let c6 = c .before .before .before .before .before .before in
+    panel-stays (c6 .before .before .before .args .u .now) _ _ _ (c6 .before .thermostat-number .ensures) (c6 .if1 .left) _
+    (sym (c .before .before .before .remote-of .ensures) ∙ c .before .enum-told2 .given .1) (c .numbered3 .ensures) refl refl)
+    (λ c.
+    let c6 = c .before .before .before .before .before .before in
+    panel-stays (c6 .before .before .before .args .u .now) _ _ _ (c6 .before .thermostat-number .ensures) (c6 .if1 .left) _
+    (sym (c .before .before .before .remote-of .ensures) ∙ c .before .enum-told3 .given .1) (c .numbered4 .ensures) refl refl)
+    (λ c.
+    let c6 = c .before .before .before .before .before .before in
+    panel-stays (c6 .before .before .before .args .u .now) _ _ _ (c6 .before .thermostat-number .ensures) (c6 .if1 .left) _
+    (sym (c .before .before .before .remote-of .ensures) ∙ c .before .enum-told4 .given .1) (c .numbered5 .ensures) refl refl))

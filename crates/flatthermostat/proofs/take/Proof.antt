@@ -11,7 +11,8 @@ take-spec =
     tie.close
     (tie.spec
     (λ c κs. search needs) (λ c κs. search needs)
-    (λ c. let a = c .before .before .before .before .before .args in take-kept (a .u .now) _ [] _ (a .b .now) [] (c .before .before .take-number .ensures) (c .before .if1 .taken) (c .numbered .ensures))
+    (λ c.
+    let a = c .before .before .before .before .before .args in take-kept (a .u .now) _ [] _ (a .b .now) [] (c .before .before .take-number .ensures) (c .before .if1 .taken) (c .numbered .ensures))
     (λ c κs. search needs) (λ c κs. search needs)
     (λ c κs.
     let c3 = c .before .before .before in
@@ -29,4 +30,5 @@ take-spec =
     let c14 = c10 .before .before .before .before in
     let a = c14 .before .before .before .before .args in
     let w = rw (c10 .before .out-of .ensures) at (c10 .widened .ensures .0) in
-    take-given (a .u .now) _ _ _ (a .b .now) _ (c14 .before .take-number .ensures) (c14 .if1 .left) (rw w at (c6 .copy-in .ensures)) (rw (c .before .before .no-message .ensures) at (c .before .put-out-message .ensures)) (rw (c .only .ensures, w) refl)))
+    take-given (a .u .now) _ _ _ (a .b .now) _ (c14 .before .take-number .ensures) (c14 .if1 .left) (rw w at (c6 .copy-in .ensures))
+    (rw (c .before .before .no-message .ensures) at (c .before .put-out-message .ensures)) (rw (c .only .ensures, w) refl)))

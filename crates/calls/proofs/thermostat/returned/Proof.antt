@@ -12,4 +12,5 @@ returned-spec =
     (λ c κs. search needs) (λ c κs. search needs)
     (λ c. c .given .ensures ∙ ap givenOf (return-refused _ _ (c .before .before .sound-gate .ensures) (c .before .if1 .taken))) (λ c κs. search needs)
     (λ c κs. search needs) (λ c κs. search needs)
-    (λ c. rw (c .given2 .ensures, c .before .with-remote .ensures, c .before .before .by-panel .ensures) (ap givenOf (return-done _ _ (c .before .before .before .before .sound-gate .ensures) (c .before .before .before .if1 .left)))))
+    (λ c. rw (c .given2 .ensures, c .before .with-remote .ensures, c .before .before .by-panel .ensures)
+    (ap givenOf (return-done _ _ (c .before .before .before .before .sound-gate .ensures) (c .before .before .before .if1 .left)))))

@@ -9,4 +9,10 @@ clearing-spec =
     tie.close
     (tie.spec
     (λ c κs. search needs) (λ c κs. search needs) (λ c κs. search needs) (λ c κs. search needs) (λ c κs. search needs)
-    (λ c. rw (c .with-split .ensures, c .before .with-in .ensures, c .before .before .cleared-in .ensures, c .before .before .before .with-out .ensures, c .before .before .before .before .empty-out .ensures)))
+    (λ c. rw (
+      c .with-split .ensures,
+      c .before .with-in .ensures,
+      c .before .before .cleared-in .ensures,
+      c .before .before .before .with-out .ensures,
+      c .before .before .before .before .empty-out .ensures,
+    )))

@@ -11,6 +11,14 @@ reply-spec =
     tie.close
     (tie.spec
     (λ c κs. search needs) (λ c. search needs)
-    (λ c κs. let a = c .before .before .before .before .before .args in rw (c .before .before .before .answer-row .ensures) (omega (arith, row-short (a .st) (a .row), c .before .before .before .before .before .pre), omega (arith, whole (answerRow (a .st) (a .row) .answer .bytes))))
+    (λ c κs.
+    let a = c .before .before .before .before .before .args in
+    rw (c .before .before .before .answer-row .ensures) (
+      omega (arith, row-short (a .st) (a .row), c .before .before .before .before .before .pre),
+      omega (arith, whole (answerRow (a .st) (a .row) .answer .bytes)),
+    ))
     (λ c. search needs)
-    (λ c. let a = c .before .before .before .before .before .before .before .before .before .args in rw (c .before .before .before .copy-in .ensures, c .before .before .before .before .before .before .before .answer-row .ensures) (refl, copied (a .b .now) (answerRow (a .st) (a .row) .answer .bytes))))
+    (λ c.
+    let a = c .before .before .before .before .before .before .before .before .before .args in
+    rw (c .before .before .before .copy-in .ensures, c .before .before .before .before .before .before .before .answer-row .ensures)
+    (refl, copied (a .b .now) (answerRow (a .st) (a .row) .answer .bytes))))

@@ -11,4 +11,5 @@ make-spec =
     (λ c κs. search needs) (λ c κs. search needs) (λ c κs. search needs)
     (λ c.
     let c4 = c .before .before .before .before in
-    made-of (c4 .before .args .u .now) (omega (arith, c4 .wipe-arg .given)) (c4 .before .args .setting) (c4 .before .args .configured) _ _ (c .before .before .before .wipe .ensures) (rw (c .before .fresh .ensures) at (c .put-state .ensures))))
+    made-of (c4 .before .args .u .now) (omega (arith, c4 .wipe-arg .given)) (c4 .before .args .setting) (c4 .before .args .configured) _ _
+    (c .before .before .before .wipe .ensures) (rw (c .before .fresh .ensures) at (c .put-state .ensures))))

@@ -11,4 +11,5 @@ aborts-out-spec =
     (λ c.
     let c6 = c .before .before .before .before .before .before in
     let o = c6 .before .before .before .out-of .ensures in
-    aborts-out (c6 .before .before .before .before .before .before .args .u .now) _ _ (rw (c6 .before .broken .ensures, o) at (c6 .put-out .ensures)) (rw o at (c .before .before .put-split .ensures))))
+    aborts-out (c6 .before .before .before .before .before .before .args .u .now) _ _ (rw (c6 .before .broken .ensures, o) at (c6 .put-out .ensures))
+    (rw o at (c .before .before .put-split .ensures))))

@@ -12,4 +12,5 @@ clears-spec =
     (λ c.
     let c6 = c .before .before .before .before .before .before in
     let c11 = c6 .before .before .before .before .before in
-    clears (c11 .before .before .before .before .before .before .args .u .now) _ _ _ (rw (c11 .before .empty-out .ensures) at (c11 .put-out .ensures)) (rw (c6 .before .cleared-in .ensures, c11 .before .before .before .in-of .ensures) at (c6 .put-in .ensures)) (c .before .before .put-split .ensures)))
+    clears (c11 .before .before .before .before .before .before .args .u .now) _ _ _ (rw (c11 .before .empty-out .ensures) at (c11 .put-out .ensures))
+    (rw (c6 .before .cleared-in .ensures, c11 .before .before .before .in-of .ensures) at (c6 .put-in .ensures)) (c .before .before .put-split .ensures)))

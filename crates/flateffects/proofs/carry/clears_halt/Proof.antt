@@ -11,8 +11,10 @@ clears-halt-spec =
     (λ c κs. search needs) (λ c κs. search needs) (λ c κs. search needs) (λ c. search needs)
     (λ c.
     let c5 = c .before .before .before .before .before in
-    rw (c5 .before .before .before .before .enum-told .given .1) (clears-out (c5 .before .before .before .before .before .before .before .args .u .now) _ (rw (c .before .before .before .clear-feature-out .ensures, c5 .split-of .ensures, c5 .before .before .out-of .ensures) at (c .before .before .put-out .ensures))))
+    rw (c5 .before .before .before .before .enum-told .given .1) (clears-out (c5 .before .before .before .before .before .before .before .args .u .now) _
+    (rw (c .before .before .before .clear-feature-out .ensures, c5 .split-of .ensures, c5 .before .before .out-of .ensures) at (c .before .before .put-out .ensures))))
     (λ c. search needs)
     (λ c.
     let c5 = c .before .before .before .before .before in
-    rw (c5 .before .before .enum-told2 .given .1) (clears-in (c5 .before .before .before .before .before .args .u .now) _ (rw (c .before .before .before .clear-feature-in .ensures, c5 .in-of .ensures) at (c .before .before .put-in .ensures)))))
+    rw (c5 .before .before .enum-told2 .given .1) (clears-in (c5 .before .before .before .before .before .args .u .now) _
+    (rw (c .before .before .before .clear-feature-in .ensures, c5 .in-of .ensures) at (c .before .before .put-in .ensures)))))

@@ -12,4 +12,5 @@ goes-to-local-spec =
     tie.close
     (tie.spec
     (λ c κs. search needs) (λ c κs. search needs) (λ c κs. search needs) (λ c. search needs)
-    (λ c. sets-remote (c .before .before .before .before .before .before .before .before .args .u .now) _ GoesToLocal _ refl (rw (c .before .before .before .to-local .ensures, c .before .before .before .before .before .remote-of .ensures) at (c .before .before .put-remote .ensures))))
+    (λ c. sets-remote (c .before .before .before .before .before .before .before .before .args .u .now) _ GoesToLocal _ refl
+    (rw (c .before .before .before .to-local .ensures, c .before .before .before .before .before .remote-of .ensures) at (c .before .before .put-remote .ensures))))

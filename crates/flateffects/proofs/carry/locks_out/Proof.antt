@@ -15,4 +15,5 @@ locks-out-spec =
     (λ c.
     let c5 = c .before .before .before .before .before in
     let a = c5 .before .before .before .before .before .args in
-    sets-remote (a .u .now) _ LocksOut _ refl (rw (c .before .before .before .locked-out .ensures, c5 .before .before .port-of .ensures, c5 .remote-of .ensures) at (c .before .before .put-remote .ensures))))
+    sets-remote (a .u .now) _ LocksOut _ refl (rw (c .before .before .before .locked-out .ensures, c5 .before .before .port-of .ensures, c5 .remote-of .ensures)
+    at (c .before .before .put-remote .ensures))))

@@ -11,6 +11,8 @@ sets-halt-spec =
     (λ c. search needs)
     (λ c.
     let c5 = c .before .before .before .before .before in
-    rw (c5 .before .before .enum-told .given .1) (sets-out (c5 .before .before .before .before .before .args .u .now) _ (rw (c .before .before .before .broken .ensures, c5 .out-of .ensures) at (c .before .before .put-out .ensures))))
+    rw (c5 .before .before .enum-told .given .1) (sets-out (c5 .before .before .before .before .before .args .u .now) _
+    (rw (c .before .before .before .broken .ensures, c5 .out-of .ensures) at (c .before .before .put-out .ensures))))
     (λ c. search needs)
-    (λ c. rw (c .before .before .before .before .enum-told2 .given .1) (sets-in (c .before .before .before .before .before .before .before .args .u .now) _ (c .before .before .put-in-halted .ensures))))
+    (λ c. rw (c .before .before .before .before .enum-told2 .given .1)
+    (sets-in (c .before .before .before .before .before .before .before .args .u .now) _ (c .before .before .put-in-halted .ensures))))

@@ -12,5 +12,7 @@ bulk-out-spec =
     (λ c κs. rw (c .before .before .x2 .given .1) at (c .before .before .before .before .outcome-of .ensures)) (λ c. search needs)
     (λ c κs. rw (c .before .before .x3 .given .1) at (c .before .before .before .before .outcome-of .ensures)) (λ c. search needs)
     (λ c κs. rw (c .before .before .x4 .given .1) at (c .before .before .before .before .outcome-of .ensures))
-    (λ c. let a = c .before .before .before .before .before .before .before .args in kept-out (a .u .now) (a .s .now) [] _ _ (rw (c .before .before .x .given .1) at (c .before .before .before .before .outcome-of .ensures)) (c .numbered .ensures))
+    (λ c.
+    let a = c .before .before .before .before .before .before .before .args in
+    kept-out (a .u .now) (a .s .now) [] _ _ (rw (c .before .before .x .given .1) at (c .before .before .before .before .outcome-of .ensures)) (c .numbered .ensures))
     (λ c. search needs) (λ c. search needs) (λ c. search needs))

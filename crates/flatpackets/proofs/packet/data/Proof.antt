@@ -25,4 +25,5 @@ data-spec =
     let a = c8 .before .before .before .before .before .args in
     let o = c8 .before .out-of .ensures in
     let x = rw o at (c8 .absorbed .ensures) in
-    data-done (a .u .now) (a .s .now) _ _ (a .count) (c8 .before .before .before .before .before .pre) _ _ (rw (c5 .before .widened .ensures .0, o) at (c5 .copy-in .ensures)) (rw x at (c .before .before .before .put-out-message .ensures)) (rw x at (c .before .put-out-transfer .ensures)) (c .numbered .ensures)))
+    data-done (a .u .now) (a .s .now) _ _ (a .count) (c8 .before .before .before .before .before .pre) _ _ (rw (c5 .before .widened .ensures .0, o) at (c5 .copy-in .ensures))
+    (rw x at (c .before .before .before .put-out-message .ensures)) (rw x at (c .before .put-out-transfer .ensures)) (c .numbered .ensures)))

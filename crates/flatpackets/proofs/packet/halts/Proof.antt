@@ -8,4 +8,7 @@ halts-spec =
     tie.close
     (tie.spec
     (λ c κs. search needs) (λ c κs. search needs) (λ c κs. search needs) (λ c κs. search needs)
-    (λ c. let a = c .before .before .before .before .before .before .before .before .args in halted (a .u .now) (a .s .now) _ _ (a .number) (c .before .before .before .before .before .before .before .before .pre) (rw (c .before .before .broken .ensures, c .before .before .before .before .out-of .ensures) at (c .before .put-out .ensures)) (c .numbered .ensures)))
+    (λ c.
+    let a = c .before .before .before .before .before .before .before .before .args in
+    halted (a .u .now) (a .s .now) _ _ (a .number) (c .before .before .before .before .before .before .before .before .pre)
+    (rw (c .before .before .broken .ensures, c .before .before .before .before .out-of .ensures) at (c .before .put-out .ensures)) (c .numbered .ensures)))

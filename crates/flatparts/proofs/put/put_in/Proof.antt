@@ -16,4 +16,6 @@ put-in-spec =
     let c₁ = c₂ .before .before .before .before in
     let a = c₁ .before .before .before .before .before .args in
     let b = a .b in
-    paste-pieces (a .u .now) IN-REPLY-AT (inReplyBytes (b .reply) ∷ inTransferBytes (b .transfer) ∷ (b .halted ∷ []) ∷ (b .recent ∷ []) ∷ []) _ (piece (c₁ .before .before .put-in-reply .ensures) (piece (c₂ .before .before .put-in-transfer .ensures) (piece (c₃ .before .before .put-in-halted .ensures) (piece (c .before .before .put-in-recent .ensures) none)))) (omega arith)))
+    paste-pieces (a .u .now) IN-REPLY-AT (inReplyBytes (b .reply) ∷ inTransferBytes (b .transfer) ∷ (b .halted ∷ []) ∷ (b .recent ∷ []) ∷ []) _
+    (piece (c₁ .before .before .put-in-reply .ensures) (piece (c₂ .before .before .put-in-transfer .ensures)
+    (piece (c₃ .before .before .put-in-halted .ensures) (piece (c .before .before .put-in-recent .ensures) none)))) (omega arith)))

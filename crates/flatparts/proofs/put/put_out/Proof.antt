@@ -16,4 +16,6 @@ put-out-spec =
     let c₁ = c₂ .before .before .before .before in
     let a = c₁ .before .before .before .before .before .args in
     let o = a .o in
-    paste-pieces (a .u .now) OUT-MESSAGE-AT (outMessageBytes (o .message) ∷ (o .halted ∷ []) ∷ outTransferBytes (o .transfer) ∷ (o .recent ∷ []) ∷ []) _ (piece (c₁ .before .before .put-out-message .ensures) (piece (c₂ .before .before .put-out-halted .ensures) (piece (c₃ .before .before .put-out-transfer .ensures) (piece (c .before .before .put-out-recent .ensures) none)))) (omega arith)))
+    paste-pieces (a .u .now) OUT-MESSAGE-AT (outMessageBytes (o .message) ∷ (o .halted ∷ []) ∷ outTransferBytes (o .transfer) ∷ (o .recent ∷ []) ∷ []) _
+    (piece (c₁ .before .before .put-out-message .ensures) (piece (c₂ .before .before .put-out-halted .ensures)
+    (piece (c₃ .before .before .put-out-transfer .ensures) (piece (c .before .before .put-out-recent .ensures) none)))) (omega arith)))

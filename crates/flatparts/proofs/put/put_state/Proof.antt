@@ -20,4 +20,6 @@ put-state-spec =
     let c₁ = c₂ .before .before .before .before in
     let a = c₁ .before .before .before .before .before .args in
     let st = a .st in
-    paste-pieces (a .u .now) PORT-AT (portBytes (portOf st) ∷ (placeOf (st .remote) ∷ []) ∷ outBytes (outOf st) ∷ inBytes (inOf st) ∷ splitBytes (st .split) ∷ []) _ (piece (c₁ .before .before .put-port .ensures) (piece (c₂ .before .before .put-remote .ensures) (piece (c₃ .before .before .put-out .ensures) (piece (c₄ .before .before .put-in .ensures) (piece (c .before .before .put-split .ensures) none))))) (omega arith)))
+    paste-pieces (a .u .now) PORT-AT (portBytes (portOf st) ∷ (placeOf (st .remote) ∷ []) ∷ outBytes (outOf st) ∷ inBytes (inOf st) ∷ splitBytes (st .split) ∷ []) _
+    (piece (c₁ .before .before .put-port .ensures) (piece (c₂ .before .before .put-remote .ensures)
+    (piece (c₃ .before .before .put-out .ensures) (piece (c₄ .before .before .put-in .ensures) (piece (c .before .before .put-split .ensures) none))))) (omega arith)))

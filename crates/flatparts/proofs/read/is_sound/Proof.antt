@@ -11,5 +11,9 @@ is-sound-spec =
     tie.close
     (tie.spec
     (λ c κs. search needs) (λ c κs. search needs) (λ c κs. search needs)
-    (λ c. (rw (sym (c .before .before .before .is-unit .ensures) ∙ c .before .before .if1 .taken, c .sound .ensures, c .before .state-of .ensures) refl, record { small = λ i. omega (arith, c .before .before .before .before .shared-slice-known .given i) }))
+    (λ c. (
+      rw (sym (c .before .before .before .is-unit .ensures) ∙ c .before .before .if1 .taken, c .sound .ensures, c .before .state-of .ensures) refl,
+      record
+          { small = λ i. omega (arith, c .before .before .before .before .shared-slice-known .given i) },
+    ))
     (λ c. (rw (sym (c .before .is-unit .ensures) ∙ c .if1 .left) refl, record { small = λ i. omega (arith, c .before .before .shared-slice-known .given i) })))

@@ -9,4 +9,9 @@ out-of-spec =
     tie.close
     (tie.spec
     (λ c κs. search needs) (λ c κs. search needs) (λ c κs. search needs) (λ c κs. search needs) (λ c. search needs) (λ c. search needs)
-    (λ c. rw (c .before .before .out-transfer-in .ensures, c .before .before .before .part2 .ensures .0, c .before .before .before .before .out-message-in .ensures, c .before .before .before .before .before .part .ensures .0)))
+    (λ c. rw (
+      c .before .before .out-transfer-in .ensures,
+      c .before .before .before .part2 .ensures .0,
+      c .before .before .before .before .out-message-in .ensures,
+      c .before .before .before .before .before .part .ensures .0,
+    )))

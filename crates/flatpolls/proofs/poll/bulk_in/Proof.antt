@@ -11,7 +11,8 @@ bulk-in-spec =
     tie.close
     (tie.spec
     (λ c κs. search needs) (λ c κs. search needs)
-    (λ c. let a = c .before .before .before .before .before .args in poll-kept (a .u .now) (a .b .now) _ (c .before .before .poll-number .ensures) [] [] _ (c .before .if1 .taken) (c .numbered .ensures))
+    (λ c.
+    let a = c .before .before .before .before .before .args in poll-kept (a .u .now) (a .b .now) _ (c .before .before .poll-number .ensures) [] [] _ (c .before .if1 .taken) (c .numbered .ensures))
     (λ c κs. search needs) (λ c κs. search needs) (λ c κs. search needs)
     (λ c κs.
     let c4 = c .before .before .before .before in
@@ -25,4 +26,6 @@ bulk-in-spec =
     let c13 = c8 .before .before .before .before .before in
     let c19 = c13 .before .before .before .before .before .before in
     let a = c19 .before .before .before .before .args in
-    poll-done (a .u .now) (a .b .now) _ (c19 .before .poll-number .ensures) _ _ _ (c19 .if1 .left) _ (rw (c8 .before .before .widened .ensures .0, c13 .port-of .ensures, c13 .before .before .before .in-of .ensures) at (c8 .cut .ensures)) _ (c .before .before .before .put-in-reply .ensures) (c .before .put-in-transfer .ensures) (rw (c .only .ensures) refl)))
+    poll-done (a .u .now) (a .b .now) _ (c19 .before .poll-number .ensures) _ _ _ (c19 .if1 .left) _
+    (rw (c8 .before .before .widened .ensures .0, c13 .port-of .ensures, c13 .before .before .before .in-of .ensures) at (c8 .cut .ensures)) _
+    (c .before .before .before .put-in-reply .ensures) (c .before .put-in-transfer .ensures) (rw (c .only .ensures) refl)))

@@ -10,7 +10,9 @@ answers-spec =
     tie.close
     (tie.spec
     (λ c κs. search needs)
-    (λ c κs. let a = c .before .before .before .before .before .before .args in roomy (a .u .now) (a .s .now) (a .b .now) [] [] (record { verdict = record { number = 0; tells = 0 }; len = 0 }) (a .row) (c .before .before .before .before .before .before .pre))
+    (λ c κs.
+    let a = c .before .before .before .before .before .before .args in
+    roomy (a .u .now) (a .s .now) (a .b .now) [] [] (record { verdict = record { number = 0; tells = 0 }; len = 0 }) (a .row) (c .before .before .before .before .before .before .pre))
     (λ c κs. search needs) (λ c. search needs)
     (λ c.
     let c5 = c .before .before .before .before .before in

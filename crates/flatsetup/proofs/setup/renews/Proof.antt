@@ -9,4 +9,7 @@ renews-spec =
     tie.close
     (tie.spec
     (λ c κs. search needs) (λ c κs. search needs) (λ c κs. search needs)
-    (λ c. let a = c .before .before .before .before .before .before .before .before .args in renewed (a .u .now) (a .s .now) (a .b .now) _ _ _ (a .value) (c .before .before .before .before .before .before .before .before .pre) (rw (c .before .before .before .port-of .ensures) at (c .before .make .ensures)) refl (c .numbered .ensures)))
+    (λ c.
+    let a = c .before .before .before .before .before .before .before .before .args in
+    renewed (a .u .now) (a .s .now) (a .b .now) _ _ _ (a .value) (c .before .before .before .before .before .before .before .before .pre)
+    (rw (c .before .before .before .port-of .ensures) at (c .before .make .ensures)) refl (c .numbered .ensures)))

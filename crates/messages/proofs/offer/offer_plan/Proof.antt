@@ -15,5 +15,8 @@ offer-plan-spec =
     (λ c κs. search needs) (λ c κs. search needs) (λ c κs. search needs)
     (λ c.
     let c4 = c .before .before .before .before in
-    let a = c4 .before .before .args in
-    (rw (c .only2 .ensures, c .before .with-in .ensures, c .before .before .offered .ensures) (offer-done (a .st) _ (a .n) (c4 .before .offer-gate .ensures) (c4 .if1 .left)), omega arith, offer-fits (a .st) _ (a .n) (c4 .before .offer-gate .ensures) (c4 .if1 .left))))
+    let a = c4 .before .before .args in (
+      rw (c .only2 .ensures, c .before .with-in .ensures, c .before .before .offered .ensures) (offer-done (a .st) _ (a .n) (c4 .before .offer-gate .ensures) (c4 .if1 .left)),
+      omega arith,
+      offer-fits (a .st) _ (a .n) (c4 .before .offer-gate .ensures) (c4 .if1 .left),
+    )))

@@ -12,4 +12,6 @@ offer-step-spec =
     (λ c κs. search needs) (λ c κs. search needs)
     (λ c. let e = c .offer-into .ensures in (pick-true _ _ _ _ (sym (c .before .before .before .sound .ensures) ∙ c .before .before .if1 .taken) (e .0), e .1))
     (λ c κs. search needs)
-    (λ c. let a = c .before .before .before .before .args in (pick-false _ _ _ _ (sym (c .before .before .sound .ensures) ∙ c .before .if1 .left) (rw (c .only .ensures)), paste-zero (a .reply .now) 0 (a .bytes .now))))
+    (λ c.
+    let a = c .before .before .before .before .args in
+    (pick-false _ _ _ _ (sym (c .before .before .sound .ensures) ∙ c .before .if1 .left) (rw (c .only .ensures)), paste-zero (a .reply .now) 0 (a .bytes .now))))

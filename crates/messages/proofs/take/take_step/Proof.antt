@@ -10,5 +10,6 @@ take-step-spec =
     (tie.spec
     (λ c κs. search needs) (λ c κs. (search needs, sym (c .before .before .before .sound .ensures) ∙ c .before .before .if1 .taken))
     (λ c. search needs)
-    (λ c. sound-hands _ _ _ _ _ (sym (c .before .before .before .before .before .before .sound .ensures) ∙ c .before .before .before .before .before .if1 .taken) (c .before .before .take-from .ensures))
+    (λ c. sound-hands _ _ _ _ _ (sym (c .before .before .before .before .before .before .sound .ensures) ∙ c .before .before .before .before .before .if1 .taken)
+    (c .before .before .take-from .ensures))
     (λ c κs. search needs) (λ c. unsound-hands _ _ _ _ (sym (c .before .before .sound .ensures) ∙ c .before .if1 .left) (c .given .ensures)))

@@ -13,7 +13,8 @@ header-fault-spec =
     (λ c κs. search needs) (λ c. search picks depth 8) (λ c κs. search needs)
     (λ c.
     let a = c .before .before .before .before .before .before .before .args in
-    header-long (a .st) (a .s .now) (a .h) (sym (c .before .before .before .out-of-turn .ensures) ∙ c .before .before .if1 .left) (let e = c .before .data-length .ensures in omega (arith, c .if2 .taken)))
+    header-long (a .st) (a .s .now) (a .h) (sym (c .before .before .before .out-of-turn .ensures) ∙ c .before .before .if1 .left)
+    (let e = c .before .data-length .ensures in omega (arith, c .if2 .taken)))
     (λ c. search needs) (λ c. search needs)
     (λ c.
     let c3 = c .before .before .before in

@@ -20,4 +20,9 @@ header-says-spec =
     (λ c κs. search needs) (λ c. search needs)
     (λ c. good-lawful _ _ (sym (c .before .before .before .before .before .before .read-header .ensures) ∙ c .before .before .before .before .r .given .1) .0)
     (λ c κs. search needs)
-    (λ c. rw (c .least .ensures, c .before .data-length .ensures, ← (c .before .before .before .before .before .before .before .read-header .ensures), c .before .before .before .before .before .r .given .1) (header-accepted _ _ _ _ (c .before .before .before .header-fault .ensures) (c .before .before .if1 .left))))
+    (λ c. rw (
+      c .least .ensures,
+      c .before .data-length .ensures,
+      ← (c .before .before .before .before .before .before .before .read-header .ensures),
+      c .before .before .before .before .before .r .given .1,
+    ) (header-accepted _ _ _ _ (c .before .before .before .header-fault .ensures) (c .before .before .if1 .left))))

@@ -14,9 +14,12 @@ more-spec =
     tie.close
     (tie.spec
     (λ c. search picks depth 12) (λ c κs. search needs) (λ c κs. search needs)
-    (λ c. let a = c .before .before .before .before .before .args in more-halts (a .p) (a .left) (a .s .now) _ (c .before .before .before .if1 .left) (rw (c .before .before .widened .ensures .0) at (c .before .fit .ensures)) (c .if2 .taken))
+    (λ c.
+    let a = c .before .before .before .before .before .args in
+    more-halts (a .p) (a .left) (a .s .now) _ (c .before .before .before .if1 .left) (rw (c .before .before .widened .ensures .0) at (c .before .fit .ensures)) (c .if2 .taken))
     (λ c κs. search needs)
     (λ c.
     let w = c .before .before .before .widened .ensures .0 in
     let a = c .before .before .before .before .before .before .args in
-    more-data (a .p) (a .left) (a .s .now) _ (c .before .before .before .before .if1 .left) (rw w at (c .before .before .fit .ensures)) (c .before .if2 .left) _ (c .least .ensures ∙ ap (λ (k : ℕ). min k (length (a .s .now))) w)))
+    more-data (a .p) (a .left) (a .s .now) _ (c .before .before .before .before .if1 .left) (rw w at (c .before .before .fit .ensures)) (c .before .if2 .left) _
+    (c .least .ensures ∙ ap (λ (k : ℕ). min k (length (a .s .now))) w)))

@@ -10,4 +10,11 @@ message-accepted-spec =
     (tie.spec
     (λ c κs. search needs) (λ c. search needs) (λ c κs. search needs) (λ c κs. rw (c .opened .ensures) (c .before .before .before .pre))
     (λ c κs. search needs) (λ c κs. search needs) (λ c κs. search needs)
-    (λ c. rw (c .only .ensures, c .before .with-remote .ensures, c .before .before .with-out .ensures, c .before .before .before .absorbed .ensures, c .before .before .before .before .opened .ensures, c .before .before .before .before .before .headed .ensures)))
+    (λ c. rw (
+      c .only .ensures,
+      c .before .with-remote .ensures,
+      c .before .before .with-out .ensures,
+      c .before .before .before .absorbed .ensures,
+      c .before .before .before .before .opened .ensures,
+      c .before .before .before .before .before .headed .ensures,
+    )))

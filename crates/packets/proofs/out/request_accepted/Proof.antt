@@ -9,4 +9,11 @@ request-accepted-spec =
     tie.close
     (tie.spec
     (λ c κs. search needs) (λ c κs. search needs) (λ c κs. search needs) (λ c κs. search needs) (λ c κs. search needs) (λ c κs. search needs)
-    (λ c. rw (c .plain .ensures, c .before .only .ensures, c .before .before .with-in .ensures, c .before .before .before .requested .ensures, c .before .before .before .before .with-out .ensures, c .before .before .before .before .before .tagged .ensures)))
+    (λ c. rw (
+      c .plain .ensures,
+      c .before .only .ensures,
+      c .before .before .with-in .ensures,
+      c .before .before .before .requested .ensures,
+      c .before .before .before .before .with-out .ensures,
+      c .before .before .before .before .before .tagged .ensures,
+    )))

@@ -11,4 +11,10 @@ carry-spec =
     (λ c. search needs)
     (λ c.
     let c3 = c .before .before .before in
-    rw (c .after-packet .ensures, c3 .copy-in .ensures, c3 .before .widened2 .ensures .0, c3 .before .before .before .least .ensures, c3 .before .before .before .before .widened .ensures .0) (refl, refl)))
+    rw (
+      c .after-packet .ensures,
+      c3 .copy-in .ensures,
+      c3 .before .widened2 .ensures .0,
+      c3 .before .before .before .least .ensures,
+      c3 .before .before .before .before .widened .ensures .0,
+    ) (refl, refl)))

@@ -19,7 +19,10 @@ first-packet-spec =
     let some = sendable-some (a .b) (a .reply .now) (omega arith) (p .1 .asked) (p .1 .unsent) in
     rw (c .before .widened .ensures .0, c .before .before .fixed .ensures) (omega arith, omega arith, omega arith))
     (λ c. search needs) (λ c. search needs) (λ c κs. search needs)
-    (λ c κs. let r = c .before .before .before .before .before .before .before .before .before .before .before .pre .1 .reply in rw (c .before .before .before .before .before .before .before .before .fixed .ensures) (record { left = omega arith; reply = r; sent = omega arith }, (omega arith, omega arith), omega arith, omega arith))
+    (λ c κs.
+    let r = c .before .before .before .before .before .before .before .before .before .before .before .pre .1 .reply in
+    rw (c .before .before .before .before .before .before .before .before .fixed .ensures)
+    (record { left = omega arith; reply = r; sent = omega arith }, (omega arith, omega arith), omega arith, omega arith))
     (λ c. search needs)
     (λ c.
     let c6 = c .before .before .before .before .before .before in

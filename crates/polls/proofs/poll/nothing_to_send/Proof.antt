@@ -9,5 +9,6 @@ nothing-to-send-spec =
     (λ c. owed-goes (c .before .before .args .b) (c .if1 .taken))
     (λ c. closed-waits (c .before .before .before .before .args .b) (c .before .before .if1 .left) (c .if2 .taken))
     (λ c. sending-goes (c .before .before .before .before .before .before .args .b) (c .before .before .if2 .left) (c .if3 .taken))
-    (λ c. empty-waits (c .before .before .before .before .before .before .before .before .args .b) (c .before .before .before .before .before .before .if1 .left) (c .before .before .if3 .left) (c .if4 .taken))
+    (λ c. empty-waits (c .before .before .before .before .before .before .before .before .args .b) (c .before .before .before .before .before .before .if1 .left)
+    (c .before .before .if3 .left) (c .if4 .taken))
     (λ c. reply-goes (c .before .before .before .before .before .before .before .before .args .b) (c .before .before .before .before .if2 .left) (c .if4 .left)))

@@ -20,7 +20,17 @@ to-interface-spec =
     (λ c. rw (c .row2 .ensures, c .before .matches2 .ensures) (search picks depth 14))
     (λ c. rw (c .row3 .ensures, c .before .matches3 .ensures) (search picks depth 14))
     (λ c. rw (c .row4 .ensures, c .before .matches4 .ensures) (search picks depth 14))
-    (λ c. rw (c .row5 .ensures, c .before .matches5 .ensures, tag-row (c .before .before .before .before .before .before .args .s .now) 2 127 0 3 (λ n. Asks (ReadStatusByte n)) (omega arith)) (search picks depth 20))
-    (λ c. rw (c .row6 .ensures, c .before .matches6 .ensures, tag-row (c .before .before .before .before .before .before .args .s .now) 0 1 0 1 (λ n. Asks (RenControl n)) (omega arith)) (search picks depth 20))
+    (λ c. rw (
+      c .row5 .ensures,
+      c .before .matches5 .ensures,
+      tag-row (c .before .before .before .before .before .before .args .s .now) 2 127 0 3 (λ n. Asks (ReadStatusByte n))
+          (omega arith),
+    ) (search picks depth 20))
+    (λ c. rw (
+      c .row6 .ensures,
+      c .before .matches6 .ensures,
+      tag-row (c .before .before .before .before .before .before .args .s .now) 0 1 0 1 (λ n. Asks (RenControl n))
+          (omega arith),
+    ) (search picks depth 20))
     (λ c. rw (c .row7 .ensures, c .before .matches7 .ensures) (search picks depth 20))
     (λ c. rw (c .row8 .ensures, c .before .matches8 .ensures) (search picks depth 20)) (λ c. search picks depth 20))

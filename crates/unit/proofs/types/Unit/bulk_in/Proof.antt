@@ -19,4 +19,5 @@ bulk-in-spec =
     (λ c. let a = c .before .before .before .before .before .before .before .before .before .args in
     let d = deviceOf (a .t1) in
     let n = length (a .b .now) in
-    rw (c .told .ensures) (handed d (quiet (in-poll n)) (poll (d .state) (unsentOf d) n) refl _ _ _ (rw (c .before .before .before .before .before .before .before .state .ensures) at (c .before .before .before .poll-step .ensures)))))
+    rw (c .told .ensures) (handed d (quiet (in-poll n)) (poll (d .state) (unsentOf d) n) refl _ _ _
+    (rw (c .before .before .before .before .before .before .before .state .ensures) at (c .before .before .before .poll-step .ensures)))))

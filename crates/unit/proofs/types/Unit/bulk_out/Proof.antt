@@ -9,4 +9,6 @@ bulk-out-spec =
     tie.close
     (tie.spec
     (λ c κs. search needs) (λ c κs. search needs) (λ c κs. search needs)
-    (λ c. let a = c .before .before .before .before .before .before .before .args in let e = rw (c .before .before .before .before .before .state .ensures) at (c .before .before .before .packet-step .ensures) in c .done .ensures ∙ stepped (a .t1) (a .s .now) _ _ (e .0) (e .1)))
+    (λ c.
+    let a = c .before .before .before .before .before .before .before .args in
+    let e = rw (c .before .before .before .before .before .state .ensures) at (c .before .before .before .packet-step .ensures) in c .done .ensures ∙ stepped (a .t1) (a .s .now) _ _ (e .0) (e .1)))

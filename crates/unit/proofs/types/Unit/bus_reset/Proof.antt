@@ -12,6 +12,8 @@ bus-reset-spec =
     (λ c κs. search needs) (λ c κs. search needs) (λ c κs. search needs) (λ c κs. search needs)
     (λ c.
     let c3 = c .before .before .before in
-    rw (c .only .ensures, c .before .made .ensures, c3 .before .state .ensures) (reset-done (deviceOf (c3 .before .before .args .self)) (sym (rw (c3 .before .state .ensures) at (c3 .sound .ensures)) ∙ c .before .before .if1 .taken)))
+    rw (c .only .ensures, c .before .made .ensures, c3 .before .state .ensures)
+    (reset-done (deviceOf (c3 .before .before .args .self)) (sym (rw (c3 .before .state .ensures) at (c3 .sound .ensures)) ∙ c .before .before .if1 .taken)))
     (λ c κs. search needs)
-    (λ c. rw (c .only2 .ensures) (reset-refused (deviceOf (c .before .before .before .before .args .self)) (sym (rw (c .before .before .before .state .ensures) at (c .before .before .sound .ensures)) ∙ c .before .if1 .left))))
+    (λ c. rw (c .only2 .ensures) (reset-refused (deviceOf (c .before .before .before .before .args .self))
+    (sym (rw (c .before .before .before .state .ensures) at (c .before .before .sound .ensures)) ∙ c .before .if1 .left))))

@@ -9,4 +9,6 @@ offer-spec =
     tie.close
     (tie.spec
     (λ c κs. search needs) (λ c κs. search needs) (λ c κs. search needs)
-    (λ c. let a = c .before .before .before .before .before .before .before .args in let e = rw (c .before .before .before .before .before .state .ensures) at (c .before .before .before .offer-step .ensures) in c .done .ensures ∙ stored (a .t1) (a .bytes .now) _ _ (e .0) (e .1)))
+    (λ c.
+    let a = c .before .before .before .before .before .before .before .args in
+    let e = rw (c .before .before .before .before .before .state .ensures) at (c .before .before .before .offer-step .ensures) in c .done .ensures ∙ stored (a .t1) (a .bytes .now) _ _ (e .0) (e .1)))

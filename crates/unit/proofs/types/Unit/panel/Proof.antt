@@ -15,4 +15,5 @@ panel-spec =
     (λ c κs. search needs) (λ c κs. search needs) (λ c κs. search needs)
     (λ c.
     let c3 = c .before .before .before in
-    c .done .ensures ∙ moved (deviceOf (c3 .before .before .args .self)) (quiet front-panel) (returned (deviceOf (c3 .before .before .args .self) .state)) refl _ (rw (c3 .before .state .ensures) at (c3 .returned .ensures))))
+    c .done .ensures ∙ moved (deviceOf (c3 .before .before .args .self)) (quiet front-panel) (returned (deviceOf (c3 .before .before .args .self) .state)) refl _
+    (rw (c3 .before .state .ensures) at (c3 .returned .ensures))))

@@ -13,4 +13,7 @@ set-status-spec =
     tie.close
     (tie.spec
     (λ c κs. search needs) (λ c κs. search needs) (λ c κs. search needs)
-    (λ c. let a = c .before .before .before .before .before .args in c .done .ensures ∙ moved (deviceOf (a .self)) (quiet (set-status (a .status))) (statusSet (deviceOf (a .self) .state) (a .status)) refl _ (rw (c .before .before .before .before .state .ensures) at (c .before .before .before .status-set .ensures))))
+    (λ c.
+    let a = c .before .before .before .before .before .args in
+    c .done .ensures ∙ moved (deviceOf (a .self)) (quiet (set-status (a .status))) (statusSet (deviceOf (a .self) .state) (a .status)) refl _
+    (rw (c .before .before .before .before .state .ensures) at (c .before .before .before .status-set .ensures))))

@@ -10,16 +10,24 @@ setup-spec =
     (tie.spec
     (λ c κs. search needs) (λ c κs. search needs) (λ c. search needs) (λ c κs. search needs) (λ c. search needs) (λ c κs. search needs)
     (λ c κs. search needs) (λ c. search needs)
-    (λ c κs. let a = c .before .before .before .before .before .before .before .before .args in setup-roomy (deviceOf (a .self)) (a .s .now) (a .b .now) _ (rw (c .before .before .before .before .before .state .ensures) at (c .before .before .before .before .decided .ensures)) _ (c .before .before .x3 .given .1))
+    (λ c κs.
+    let a = c .before .before .before .before .before .before .before .before .args in
+    setup-roomy (deviceOf (a .self)) (a .s .now) (a .b .now) _ (rw (c .before .before .before .before .before .state .ensures)
+    at (c .before .before .before .before .decided .ensures)) _ (c .before .before .x3 .given .1))
     (λ c κs. search needs)
-    (λ c. let a = c .before .before .before .before .before .before .before .before .args in rw (c .only .ensures) (setup-denied (deviceOf (a .self)) (a .s .now) (a .b .now) _ (rw (c .before .before .before .before .before .state .ensures) at (c .before .before .before .before .decided .ensures)) _ (c .before .before .x .given .1)))
+    (λ c.
+    let a = c .before .before .before .before .before .before .before .before .args in
+    rw (c .only .ensures) (setup-denied (deviceOf (a .self)) (a .s .now) (a .b .now) _
+    (rw (c .before .before .before .before .before .state .ensures) at (c .before .before .before .before .decided .ensures)) _ (c .before .before .x .given .1)))
     (λ c.
     let c5 = c .before .before .before .before .before in
     let a = c5 .before .before .before .before .args in
-    rw (c .only2 .ensures, c .before .made .ensures, c5 .before .state .ensures) (setup-renewed (deviceOf (a .self)) (a .s .now) (a .b .now) _ (rw (c5 .before .state .ensures) at (c5 .decided .ensures)) _ (c .before .before .before .x2 .given .1)))
+    rw (c .only2 .ensures, c .before .made .ensures, c5 .before .state .ensures)
+    (setup-renewed (deviceOf (a .self)) (a .s .now) (a .b .now) _ (rw (c5 .before .state .ensures) at (c5 .decided .ensures)) _ (c .before .before .before .x2 .given .1)))
     (λ c. search needs)
     (λ c.
     let c6 = c .before .before .before .before .before .before in
     let c9 = c6 .before .before .before in
     let a = c9 .before .before .before .args in
-    rw (c .told .ensures) (setup-answered (deviceOf (a .self)) (a .s .now) (a .b .now) _ (rw (c9 .state .ensures) at (c6 .before .before .decided .ensures)) _ (c6 .x3 .given .1) _ _ (rw (c9 .state .ensures) at (c .before .before .before .row-step .ensures)))))
+    rw (c .told .ensures) (setup-answered (deviceOf (a .self)) (a .s .now) (a .b .now) _ (rw (c9 .state .ensures) at (c6 .before .before .decided .ensures)) _ (c6 .x3 .given .1) _
+    _ (rw (c9 .state .ensures) at (c .before .before .before .row-step .ensures)))))

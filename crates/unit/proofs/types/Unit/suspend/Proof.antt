@@ -16,4 +16,6 @@ suspend-spec =
     tie.close
     (tie.spec
     (λ c κs. search needs) (λ c κs. search needs) (λ c κs. search needs)
-    (λ c. let d = deviceOf (c .before .before .before .before .before .args .self) in c .done .ensures ∙ moved d (quiet bus-suspend) (says (localNow (d .state)) []) refl _ (rw (c .before .before .before .before .state .ensures) at (c .before .before .before .suspended .ensures))))
+    (λ c.
+    let d = deviceOf (c .before .before .before .before .before .args .self) in
+    c .done .ensures ∙ moved d (quiet bus-suspend) (says (localNow (d .state)) []) refl _ (rw (c .before .before .before .before .state .ensures) at (c .before .before .before .suspended .ensures))))

@@ -18,4 +18,5 @@ take-spec =
     (λ c. let a = c .before .before .before .before .before .before .before .before .before .args in
     let d = deviceOf (a .t1) in
     let n = length (a .b .now) in
-    rw (c .told .ensures) (handed d (take-into n) (taking (d .state) (heldOf d) n) refl _ _ _ (rw (c .before .before .before .before .before .before .before .state .ensures) at (c .before .before .before .take-step .ensures)))))
+    rw (c .told .ensures) (handed d (take-into n) (taking (d .state) (heldOf d) n) refl _ _ _
+    (rw (c .before .before .before .before .before .before .before .state .ensures) at (c .before .before .before .take-step .ensures)))))
