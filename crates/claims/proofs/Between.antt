@@ -1,38 +1,31 @@
--- A call between the packets of a command: one that is no packet, no take and no break leaves what a packet is decided by.
+-- What a packet and a take are decided by, and what leaves it: every row that is no break, and every call that brings, takes and breaks no message.
 -- Assumes nothing.
 use Prim.Native.Nat.{ℕ}
 use mathlib.Core.Path.{_≡_, refl}
 use mathlib.Core.Bool.{Bool, false, true≢false}
 use mathlib.Core.List.{List, [], _∷_}
 use lib.ListN.{length}
-use borrow.Author.Tests.{eq-eqb}
-use Rattle.rules.specs.Choice.{_=ᵇ_, no, _and_}
+use Rattle.rules.specs.Choice.{no}
 use Rattle.rules.specs.Answers.{DONE, only}
-use Rattle.rules.proofs.Choice.{pick-all, decide-all, not-both}
-use Rattle.wire.specs.Setup.{readSetup}
+use Rattle.rules.proofs.Choice.{pick-all, decide-all}
 use Rattle.wire.specs.declared.types.Endpoint.the-variants.{Out, In}
 use Rattle.wire.specs.declared.types.Row.{Row}
 use Rattle.wire.specs.declared.types.Row.the-variants.{InitiateAbortBulkOut, CheckAbortBulkOutStatus, InitiateAbortBulkIn, CheckAbortBulkInStatus, InitiateClear, CheckClearStatus, GetCapabilities, IndicatorPulse, ReadStatusByte, RenControl, GoToLocal, LocalLockout, ClearFeature, SetFeature, GetStatus}
-use Rattle.wire.specs.declared.types.Setup.{Setup}
-use Rattle.wire.specs.declared.types.Setup.the-variants.{Configure, Asks, NoRow}
 use Rattle.port.specs.Parts.{on, isOpenOut, isOpenIn, isOwed, isClear, packetSize, outOf, inOf, isConfigured}
 use Rattle.port.specs.Remote.{localNow}
 use Rattle.port.specs.Answer.{Said, refuse}
 use Rattle.port.specs.Out.{plain}
 use Rattle.port.specs.In.{inRules, poll}
 use Rattle.port.specs.Rows.{Reaction, answering, abortRules, outTag, inTag, initiateAbortOut, initiateAbortIn, checkAbortOut, checkAbortIn, initiateClear, checkClear, answerRow, effected}
-use Rattle.port.specs.Device.{Device, Result, isSound, withState}
-use Rattle.port.specs.Calls.{bulkIn, setupRules, asked, setupOutcome, answered, setup, offerRules, offerPlan, withReply, offer, thermostatRules, statusSet, setStatus, returned, panel, busReset, suspend}
-use Rattle.port.specs.Step.{Quiet, in-poll, offer-reply, set-status, front-panel, bus-suspend, Call, setup-packet, out-packet, take-into, bus-reset, quiet, quietly, soundly, step}
-use Rattle.port.specs.Breaks.{breaksRow, breaksSetup, isBreak}
+use Rattle.port.specs.Device.{Device, withState}
+use Rattle.port.specs.Calls.{bulkIn, offerRules, offerPlan, withReply, offer, thermostatRules, statusSet, setStatus, returned, panel, suspend}
+use Rattle.port.specs.Step.{Quiet, in-poll, offer-reply, set-status, front-panel, bus-suspend, quietly}
+use Rattle.port.specs.Breaks.{breaksRow}
 use Rattle.port.specs.declared.types.BulkOut.{BulkOut}
 use Rattle.port.specs.declared.types.Split.{Split}
 use Rattle.port.specs.declared.types.Split.the-variants.{None, AbortOut, AbortIn, Clear}
-use Rattle.port.specs.declared.types.SetupOutcome.{SetupOutcome}
-use Rattle.port.specs.declared.types.SetupOutcome.the-variants.{Denies}
 use Rattle.port.specs.declared.types.State.{State}
 use Rattle.port.specs.declared.types.Plan.{Plan}
-use Rattle.claims.specs.Command.{Harmless}
 
 -- what a packet and a take are decided by, but for soundness
 pub record Face : Type 0 where
@@ -43,14 +36,6 @@ pub record Face : Type 0 where
 
 abbrev pub face : Device → Face
 face u = record { out = outOf (u .state); message = u .message; size = packetSize (u .state); configured = isConfigured (u .state) }
-
--- a call that is no packet and no take
-abbrev pub Other : Call → Type 0
-Other (setup-packet p) = Unit {0}
-Other (out-packet s) = ⊥
-Other (take-into room) = ⊥
-Other bus-reset = Unit {0}
-Other (quiet q) = Unit {0}
 
 module _ (u : Device) where
   abbrev Kept : Device → Type 0
@@ -103,15 +88,6 @@ module _ (u : Device) where
   row-kept (SetFeature In) = (refl, λ _. refl)
   row-kept (GetStatus endpoint) = (refl, λ _. refl)
 
-  abbrev SetupKept : Setup → SetupOutcome → Type 0
-  SetupKept x o = let r = answered u o in (r .answer .verdict .number =ᵇ DONE and breaksSetup x (r .answer .bytes)) ≡ false → Kept (r .unit)
-
-  asked-kept : (x : Setup) → SetupKept x (asked st x)
-  unfolding _and_ answered asked
-  asked-kept (Configure value) = λ e. absurd (true≢false e)
-  asked-kept (Asks row) = pick-all (SetupKept (Asks row)) (isConfigured st) _ _ (λ _ e. let k = row-kept row in k .1 (not-both _ _ e (eq-eqb _ _ (k .0)))) (λ _ _. refl)
-  asked-kept NoRow = λ _. refl
-
   abbrev Said-kept : Said → Type 0
   Said-kept r = Kept (withState u (r .state))
 
@@ -123,15 +99,3 @@ module _ (u : Device) where
   quiet-kept (set-status status) = decide-all Said-kept (refuse st) (thermostatRules st) _ (refl, tt) (λ _. refl)
   quiet-kept front-panel = decide-all Said-kept (refuse st) (thermostatRules st) _ (refl, tt) (λ _. refl)
   quiet-kept bus-suspend = refl
-
-  -- THE LAW
-  pub harmless-kept : (c : Call) → Other c → Harmless c (step u c .answer) → Kept (step u c .unit)
-  unfolding step soundly isBreak setup setupOutcome answered busReset
-  harmless-kept c o = pick-all (λ (r : Result). Harmless c (r .answer) → Kept (r .unit)) (isSound u) _ _ (λ _. by c o) (λ _ _. refl)
-    where
-      by : (c : Call) → Other c → Harmless c (soundly u c .answer) → Kept (soundly u c .unit)
-      by (setup-packet p) o = decide-all (SetupKept (readSetup (p .packet))) Denies (setupRules (length (p .packet)) (p .room)) _ (λ _. refl, tt) (λ _. asked-kept (readSetup (p .packet)))
-      by (out-packet s) o = absurd o
-      by (take-into room) o = absurd o
-      by bus-reset o = λ e. absurd (true≢false e)
-      by (quiet q) o = λ _. quiet-kept q

@@ -7,7 +7,7 @@ use mathlib.Core.Bool.{true, false}
 use mathlib.Core.List.{List, [], _∷_}
 use mathlib.Core.Logic.{⊎-elim}
 use native.Mathlib.Omega.{arith}
-use lib.ListN.{length, getD, take, drop, length-replicate}
+use lib.ListN.{length, take, drop, length-replicate}
 use borrow.Author.Tests.{eqb-true, eqb-false, le-ltb, ltb-false}
 use Rattle.rules.specs.Choice.{no, pick, _≠ᵇ_}
 use Rattle.rules.specs.Answers.{DONE}
@@ -20,14 +20,13 @@ use Rattle.wire.specs.declared.types.Setup.{Setup}
 use Rattle.wire.specs.declared.types.Setup.the-variants.{Configure, Asks}
 use Rattle.port.specs.Parts.{STORE, CLOSED, OWED, isSize, isOwed, isClear, packetSize, portOf, outOf, inOf, isConfigured, transferIn, closedIn, withSplit, emptyOut, emptyIn, fresh, broken, haltedOut}
 use Rattle.port.specs.Sound.{sound}
-use Rattle.port.specs.Answer.{Answer}
 use Rattle.port.specs.Rows.{Reaction, answering, checkClear, answerRow, effected, reacted}
 use Rattle.port.specs.Device.{Device, Result, isSound, withState, zeroed, made, powerOn}
 use Rattle.port.specs.Calls.{refused, said, setupRules, asked, setupOutcome, answered, setup}
 use Rattle.port.specs.Step.{Call, setup-of, soundly, step, run, after}
 use Rattle.port.specs.Live.{Live, live, alive, atFront}
 use Rattle.port.specs.Survivors.{survivors}
-use Rattle.port.specs.Laws.{Stored, CHECK-CLEAR-STATUS, success}
+use Rattle.port.specs.Laws.{Stored, CHECK-CLEAR-STATUS, Succeeds}
 use Rattle.port.specs.declared.types.Setting.{Setting}
 use Rattle.port.specs.declared.types.Split.the-variants.{None}
 use Rattle.port.specs.declared.types.SetupOutcome.{SetupOutcome}
@@ -108,17 +107,17 @@ pub record Cleared (u : Device) (control : ℕ) (r : Result) : Type 0 where
 
 module _ (u : Device) (control : ℕ) where
   abbrev Then : Result → Type 0
-  Then r = r .answer ≡ success → Cleared u control r
+  Then r = Succeeds (r .answer) → Cleared u control r
 
   -- a number other than 0, and a status other than SUCCESS, are not that answer
   numbered : (n : ℕ) → (n ≡ DONE → ⊥) → Then (refused u n)
-  numbered n k e = absurd (k (ap (λ (a : Answer). a .verdict .number) e))
+  numbered n k e = absurd (k (e .number))
 
   abbrev Row-then : Reaction → Type 0
   Row-then r = Then (said u (reacted (u .state) r))
 
   statused : (status rest : ℕ) → (status ≡ 1 → ⊥) → Row-then (answering (status ∷ rest ∷ []))
-  statused status rest k e = absurd (k (ap (λ (a : Answer). getD (a .bytes) 0 0) e))
+  statused status rest k e = absurd (k (e .status))
 
   row-then : CONTROL ≤ control → isConfigured (u .state) ≡ true → Row-then (checkClear (inOf (u .state)) (u .state .split))
   unfolding checkClear effected

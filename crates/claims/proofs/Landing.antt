@@ -1,144 +1,115 @@
--- How far a command has come, and how a packet takes it further.
+-- What an accepted packet leaves is a function of its bytes; for the first packet of those that are to come it is the unit that waits for the others.
 -- Assumes nothing.
-use Prim.Native.Nat.{ℕ, _-_, _%_, _≤_}
+use Prim.Native.Nat.{ℕ, _+_, _-_, _%_, _≤_, _<_}
 use mathlib.Core.Path.{_≡_, refl, sym, ap, _∙_, subst}
-use mathlib.Core.Bool.{true}
 use mathlib.Core.List.{List, [], _∷_, _++_, append-nil, append-assoc}
 use mathlib.Core.Logic.{⊎-elim}
 use native.Mathlib.Omega.{arith}
-use lib.ListN.{length, take, drop, length-drop, take-append-drop}
-use lib.Seq.{paste, take-paste, take-length}
-use borrow.Author.Tests.{eq-eqb, ne-eqb}
+use lib.ListN.{length, take, drop, replicate, length-append}
+use lib.Seq.{take-at}
+use borrow.Author.Tests.{eqb-true, eqb-false, eq-eqb, ne-eqb, lt-ltb, le-ltb}
+use Rattle.rules.specs.Choice.{_=ᵇ_, _<ᵇ_, pick}
+use Rattle.rules.specs.When.{Not}
 use Rattle.rules.proofs.Choice.{at-true, at-false}
-use Rattle.port.specs.Parts.{isSize}
-use Rattle.port.specs.Out.{completed, continued, absorbed}
-use Rattle.port.specs.Device.{heldIn}
-use Rattle.port.specs.declared.types.BulkOut.{BulkOut}
-use Rattle.claims.specs.Command.{Piece, command, Good, cutUp, packetsOf, sending}
-use Rattle.claims.proofs.Between.{Face}
-use Rattle.claims.proofs.Cuts.{body, cut, cut-none, size-fours, packet, count, first-packet, other-packets, count-fits, data-first, Rest, goes}
+use Rattle.wire.specs.When.{at, fourAt}
+use Rattle.port.proofs.KeepsOut.{cases}
+use Rattle.claims.specs.Command.{Piece, command, header, aligned, mark, sending}
+use Rattle.claims.proofs.Digits.{in-four}
+use Rattle.claims.proofs.Cuts.{aligned-long}
+use Rattle.claims.proofs.Effects.{View, holds, Taken, empty, other, all-at-once, begins, ends, goes-on}
+use Rattle.claims.proofs.Follows.{Follows, between}
+use Rattle.claims.proofs.First.{Bit, all, some, First, an-empty, a-header, more}
 
--- the mark of a transfer that these follow: it is the last, or it is not
-abbrev pub mark : List Piece → ℕ
-mark [] = 1
-mark (p ∷ ps) = 0
+-- of a transfer that lacks `left`, these bytes have come
+abbrev landed : View → ℕ → ℕ → List ℕ → View
+landed w left end r = pick (length r <ᵇ left) (holds w (w .held ++ r) (left - length r) end 0) (holds w (w .held ++ take left r) 0 0 end)
 
-pub sending-is : (size : ℕ) (p : Piece) (ps : List Piece) → sending size (p ∷ ps) ≡ packetsOf size (mark ps) p ++ sending size ps
-unfolding sending
-sending-is size p [] = sym (append-nil (packetsOf size 1 p))
-sending-is size p (q ∷ ps) = refl
+unfoldable pub landing : View → List ℕ → View
+landing w s = pick (w .left =ᵇ 0) (pick (at s 0 =ᵇ 1) (landed w (fourAt s 4) (at s 8) (drop 12 s)) w) (landed w (w .left) (w .end) s)
 
--- ** how far a command has come: its bytes that are held, with those to come, are `total`
+module _ (w : View) where
+  landed-all : (left end : ℕ) (d : List ℕ) → length d ≡ left → landed w left end (aligned d) ≡ holds w (w .held ++ d) 0 0 end
+  landed-all left end d long =
+      let a = aligned-long d in
+      at-false _ _ _ (le-ltb (length (aligned d)) left (omega arith))
+      ∙ ap (λ (l : List ℕ). holds w (w .held ++ l) 0 0 end) (take-at d (replicate ((4 - length d % 4) % 4) 0) left long)
 
--- the transfers `ps` are to come
-pub record Between (total : List ℕ) (packets : List (List ℕ)) (f : Face) (ps : List Piece) : Type 0 where
-  pub good : Good ps
-  pub closed : f .out .transfer .left ≡ 0
-  pub ready : f .out .message .ready ≡ mark ps
-  pub bytes : heldIn (f .out) (f .message) ++ command ps ≡ total
-  pub packets-are : packets ≡ sending (f .size) ps
+  landed-some : (left end : ℕ) (r : List ℕ) → length r < left → landed w left end r ≡ holds w (w .held ++ r) (left - length r) end 0
+  landed-some left end r less = at-true _ _ _ (lt-ltb (length r) left less)
 
--- the data `d` of a transfer is to come, and then `ps`
-pub record Within (total : List ℕ) (packets : List (List ℕ)) (f : Face) (ps : List Piece) (d : List ℕ) (most : ℕ) : Type 0 where
-  pub good : Good ps
-  pub some : 1 ≤ length d
-  pub left : f .out .transfer .left ≡ length d
-  pub end : f .out .transfer .end ≡ mark ps
-  pub ready : f .out .message .ready ≡ 0
-  pub bytes : heldIn (f .out) (f .message) ++ (d ++ command ps) ≡ total
-  pub enough : length (body d) ≤ most
-  pub packets-are : packets ≡ cutUp most (f .size) (body d) ++ sending (f .size) ps
+  module _ (s : List ℕ) where
+    at-header : w .left ≡ 0 → (tag size end : ℕ) (r : List ℕ) → size ≤ 1024 → s ≡ header tag size end ++ r → landing w s ≡ landed w size end r
+    unfolding landing
+    at-header closed tag size end r fits is =
+        at-true _ _ _ (eq-eqb (w .left) 0 closed)
+        ∙ at-true _ _ _ (eq-eqb (at s 0) 1 (ap (λ (l : List ℕ). at l 0) is))
+        ∙ (λ i. landed w ((ap (λ (l : List ℕ). fourAt l 4) is ∙ in-four size fits) i) (at (is i) 8) (drop 12 (is i)))
 
-pub data Ahead (total : List ℕ) (packets : List (List ℕ)) (f : Face) : Type 0 where
-  between : (ps : List Piece) → Between total packets f ps → Ahead total packets f
-  within : (ps : List Piece) (d : List ℕ) (most : ℕ) → Within total packets f ps d most → Ahead total packets f
+    at-other : w .left ≡ 0 → Not (at s 0 ≡ 1) → landing w s ≡ w
+    unfolding landing
+    at-other closed n = at-true _ _ _ (eq-eqb (w .left) 0 closed) ∙ at-false _ _ _ (ne-eqb (at s 0) 1 n)
 
-pub record Far (total : List ℕ) (packets : List (List ℕ)) (f : Face) : Type 0 where
-  pub running : f .out .halted ≡ 0
-  pub configured : f .configured ≡ true
-  pub ahead : Ahead total packets f
+    at-more : Not (w .left ≡ 0) → landing w s ≡ landed w (w .left) (w .end) s
+    unfolding landing
+    at-more n = at-false _ _ _ (ne-eqb (w .left) 0 n)
 
--- ** a packet of a transfer: `head` and the data `d` are to come
+    -- any accepted packet
+    pub taken-landing : (x : View) → Taken w s x → x ≡ landing w s
+    taken-landing x (empty is closed e) = e ∙ sym (at-other closed (λ z. let k : _≡_ {A = ℕ} 0 1 = ap (λ (l : List ℕ). at l 0) (sym is) ∙ z in omega arith))
+    taken-landing x (other is closed none e) =
+        e ∙ sym (at-other closed (⊎-elim (λ k z. let a : _≡_ {A = ℕ} 2 1 = ap (λ (l : List ℕ). at l 0) (sym (k .bytes)) ∙ z in omega arith)
+        (λ k z. let a : _≡_ {A = ℕ} 128 1 = ap (λ (l : List ℕ). at l 0) (sym (k .bytes)) ∙ z in omega arith) is))
+    taken-landing x (all-at-once o d closed long is fits e) =
+        e ∙ sym (at-header closed (o .tag) (o .size) (o .end) (drop 12 s) (let k = o .room in omega arith) (o .bytes) ∙ ap (landed w (o .size) (o .end)) is ∙ landed-all (o .size) (o .end) d long)
+    taken-landing x (begins o closed full less e) =
+        e ∙ sym (at-header closed (o .tag) (o .size) (o .end) (drop 12 s) (let k = o .room in omega arith) (o .bytes) ∙ landed-some (o .size) (o .end) (drop 12 s) less)
+    taken-landing x (ends d opened long is fits e) = e ∙ sym (at-more opened ∙ ap (landed w (w .left) (w .end)) is ∙ landed-all (w .left) (w .end) d long)
+    taken-landing x (goes-on opened full less e) = e ∙ sym (at-more opened ∙ landed-some (w .left) (w .end) s less)
 
-module _ (P : ℕ) (head d : List ℕ) (size : isSize P ≡ true) (short : length head ≤ 12) (fours : length head % 4 ≡ 0) (some : 1 ≤ length d) (ps : List Piece) where
-  abbrev now : List ℕ
-  now = packet P head d size short fours some
+-- ** how far a command is: packets `q` are to come, and with them the rest of `m`; or it is all here
 
-  abbrev n : ℕ
-  n = count P head d size short fours some
+pub data Stand (P : ℕ) (w : View) (q : List (List ℕ)) (m : List ℕ) : Type 0 where
+  lacks : (t : List ℕ) → w .ready ≡ 0 → Follows P (w .left) (w .end) (length (w .held)) q t → w .held ++ t ≡ m → Stand P w q m
+  has-all : w .ready ≡ 1 → q ≡ [] → w .held ≡ m → Stand P w q m
 
-  abbrev later : List ℕ
-  later = drop (P - length head) (body d)
+module _ (P : ℕ) (w : View) (q : List (List ℕ)) (m : List ℕ) where
+  -- what is left to come of a transfer that is complete, by its mark
+  marked-none : (end n : ℕ) (t : List ℕ) → end ≡ 1 → Follows P 0 end n q t → (q ≡ []) × (t ≡ [])
+  unfolding sending
+  marked-none end n t e f = by (f .pieces) (f .mark-is ∙ e) (between P n q t end f .0) (between P n q t end f .1)
+    where
+      by : (ps : List Piece) → mark ps ≡ 1 → q ≡ sending P ps → t ≡ command ps → (q ≡ []) × (t ≡ [])
+      by [] k a b = (a, b)
+      by (p ∷ ps) k a b = absurd (omega arith)
 
-  pub record Next (packets : List (List ℕ)) : Type 0 where
-    pub left : ℕ
-    pub enough : length later ≤ left
-    pub is : packets ≡ now ∷ (cutUp left P later ++ sending P ps)
+  stand-all : (left end : ℕ) (d t t′ : List ℕ) → end ≤ 1 → length d ≡ left → w .held ++ t ≡ m → t ≡ d ++ t′ → Follows P 0 end (length (w .held) + left) q t′
+      → Stand P (holds w (w .held ++ d) 0 0 end) q m
+  stand-all left end d t t′ flag long whole is f =
+      let l = length-append (w .held) d in
+      let parts : (w .held ++ d) ++ t′ ≡ m = append-assoc (w .held) d t′ ∙ ap (λ (r : List ℕ). w .held ++ r) (sym is) ∙ whole in
+      ⊎-elim
+      (λ e. let z : end ≡ 0 = eqb-true _ _ e in
+      lacks t′ z (subst (λ (k : ℕ). Follows P 0 0 k q t′) (sym (l ∙ ap (λ (k : ℕ). length (w .held) + k) long)) (subst (λ (k : ℕ). Follows P 0 k (length (w .held) + left) q t′) z f)) parts)
+      (λ e. let n = eqb-false end 0 e in let z : end ≡ 1 = omega arith in let k = marked-none end _ t′ z f in
+      has-all z (k .0) (sym (append-nil (w .held ++ d)) ∙ ap (λ (r : List ℕ). (w .held ++ d) ++ r) (sym (k .1)) ∙ parts))
+      (cases (end =ᵇ 0))
 
-  pub next : (packets : List (List ℕ)) (most : ℕ) → 1 ≤ length (head ++ body d) → length (head ++ body d) ≤ most → packets ≡ cutUp most P (head ++ body d) ++ sending P ps → Next packets
-  next packets most any enough e =
-      let c = cut most P (head ++ body d) (let s = size-fours P size in omega arith) any enough in
-      record {
-        left = c .left;
-        enough = subst (λ (l : List ℕ). length l ≤ c .left) (other-packets P head d size short fours some) (c .enough);
-        is = e
-            ∙ ap (λ (l : List (List ℕ)). l ++ sending P ps) (c .is)
-            ∙ (λ i. first-packet P head d size short fours some i ∷ (cutUp (c .left) P (other-packets P head d size short fours some i) ++ sending P ps));
-      }
+  stand-some : (left end : ℕ) (r t t′ : List ℕ) → w .held ++ t ≡ m → t ≡ r ++ t′ → Follows P (left - length r) end (length (w .held) + length r) q t′
+      → Stand P (holds w (w .held ++ r) (left - length r) end 0) q m
+  stand-some left end r t t′ whole is f =
+      lacks t′ refl (subst (λ (k : ℕ). Follows P (left - length r) end k q t′) (sym (length-append (w .held) r)) f)
+      (append-assoc (w .held) r t′ ∙ ap (λ (l : List ℕ). w .held ++ l) (sym is) ∙ whole)
 
-  -- what has come is absorbed
-  module _ (f : Face) (o : BulkOut) where
-    abbrev before : List ℕ
-    before = heldIn o (f .message)
+  stand-bit : (room left end : ℕ) (r t : List ℕ) → end ≤ 1 → w .held ++ t ≡ m → Bit P room left end (length (w .held)) r q t → Stand P (landed w left end r) q m
+  stand-bit room left end r t flag whole (all d t′ long is fits e f) =
+      subst (λ (v : View). Stand P v q m) (sym (ap (landed w left end) is ∙ landed-all w left end d long)) (stand-all left end d t t′ flag long whole e f)
+  stand-bit room left end r t flag whole (some t′ full less e f) = subst (λ (v : View). Stand P v q m) (sym (landed-some w left end r less)) (stand-some left end r t t′ whole e f)
 
-    abbrev landed : BulkOut → Face
-    landed q = record { out = q; message = paste (f .message) (o .message .held) (drop (length head) now) n; size = P; configured = f .configured }
-
-    held-now : o .message .held ≤ length (f .message) → heldIn (completed o n) (landed o .message) ≡ before ++ take n d
-    held-now fits =
-        take-paste (f .message) (o .message .held) (drop (length head) now) n fits (count-fits P head d size short fours some)
-        ∙ ap (λ (l : List ℕ). before ++ l) (data-first P head d size short fours some)
-
-    module _
-        (total : List ℕ) (packets : List (List ℕ)) (left : ℕ)
-        (good : Good ps) (fits : o .message .held ≤ length (f .message)) (to-come : o .transfer .left ≡ length d) (end : o .transfer .end ≡ mark ps)
-        (bytes : before ++ (d ++ command ps) ≡ total)
-        (enough : length later ≤ left) (are : packets ≡ cutUp left P later ++ sending P ps) where
-      whole : n ≡ length d → later ≡ [] → Between total packets (landed (completed o n)) ps
-      whole e none = record {
-        good = good;
-        closed = refl;
-        ready = end;
-        bytes = ap (λ (l : List ℕ). l ++ command ps) (held-now fits ∙ ap (λ (k : ℕ). before ++ take k d) e ∙ ap (λ (l : List ℕ). before ++ l) (take-length d))
-            ∙ append-assoc before d (command ps)
-            ∙ bytes;
-        packets-are = are ∙ ap (λ (l : List ℕ). cutUp left P l ++ sending P ps) none ∙ ap (λ (l : List (List ℕ)). l ++ sending P ps) (cut-none left P);
-      }
-
-      part : Rest P head d size short fours some → Within total packets (landed (continued o n)) ps (drop n d) left
-      part r =
-          let less = r .less in
-          let long = length-drop n d in
-          record {
-            good = good;
-            some = omega arith;
-            left = omega arith;
-            end = end;
-            ready = refl;
-            bytes = ap (λ (l : List ℕ). l ++ (drop n d ++ command ps)) (held-now fits)
-                ∙ append-assoc before (take n d) (drop n d ++ command ps)
-                ∙ ap (λ (l : List ℕ). before ++ l) (sym (append-assoc (take n d) (drop n d) (command ps)) ∙ ap (λ (l : List ℕ). l ++ command ps) (take-append-drop n d))
-                ∙ bytes;
-            enough = subst (λ (l : List ℕ). length l ≤ left) (r .on) enough;
-            packets-are = are ∙ ap (λ (l : List ℕ). cutUp left P l ++ sending P ps) (r .on);
-          }
-
-      pub lands : o .halted ≡ 0 → f .configured ≡ true → Far total packets (landed (absorbed o n))
-      unfolding absorbed
-      lands running configured =
-          ⊎-elim (λ w. subst A (sym (at-true _ _ _ (eq-eqb (o .transfer .left) n (omega arith)))) (record { running = running; configured = configured; ahead = between ps (whole (w .0) (w .1)) }))
-          (λ r. let l = r .less in subst A (sym (at-false _ _ _ (ne-eqb (o .transfer .left) n (λ e. omega arith)))) (record { running = running; configured = configured; ahead = within ps (drop n d) left (part r) }))
-          (goes P head d size short fours some)
-        where
-          A : BulkOut → Type 0
-          A q = Far total packets (landed q)
+  -- behind the first of the packets that are to come
+  pub stand-on : (s t : List ℕ) → w .end ≤ 1 → w .ready ≡ 0 → w .held ++ t ≡ m → First P (w .left) (w .end) (length (w .held)) s q t → Stand P (landing w s) q m
+  stand-on s t flag unready whole (an-empty is closed f) =
+      subst (λ (v : View). Stand P v q m) (sym (at-other w s closed (λ z. let k : _≡_ {A = ℕ} 0 1 = ap (λ (l : List ℕ). at l 0) (sym is) ∙ z in omega arith))) (lacks t unready f whole)
+  stand-on s t flag unready whole (a-header closed h) =
+      subst (λ (v : View). Stand P v q m) (sym (at-header w s closed (h .tag) (h .size) (h .end) (h .behind) (let k = h .room in omega arith) (h .bytes)))
+      (stand-bit (P - 12) (h .size) (h .end) (h .behind) t (h .flag) whole (h .bit))
+  stand-on s t flag unready whole (more opened b) = subst (λ (v : View). Stand P v q m) (sym (at-more w s opened)) (stand-bit P (w .left) (w .end) s t flag whole b)

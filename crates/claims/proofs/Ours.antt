@@ -1,17 +1,37 @@
--- All that is claimed, of our port, and the corollary that needs two of the theorems.
+-- All that is claimed, of our port.
 -- Assumes nothing.
 use Rattle.port.specs.Step.{step}
-use Rattle.port.proofs.Clearing.{clear-reached}
-use Rattle.claims.specs.Claims.{CommandAfterClear, Claimed}
-use Rattle.claims.proofs.Again.{stored-again, waiting-again}
-use Rattle.claims.proofs.Answers.{rule-for-every}
+use Rattle.port.proofs.Clearing.{clear-reached, clear-reached-polled, clear-reached-halted, survive}
+use Rattle.port.proofs.Replies.{replies-read}
+use Rattle.port.proofs.When.{rule-for-every}
+use Rattle.claims.specs.Claims.{Claimed}
+use Rattle.claims.proofs.Acted.{acts-only-on, acts-only-on-ever}
+use Rattle.claims.proofs.Again.{command-after-clear}
 use Rattle.claims.proofs.Arrives.{whole-command}
-use Rattle.claims.proofs.Cleared.{clean-after-fault}
-use Rattle.claims.proofs.History.{no-half-command}
+use Rattle.claims.proofs.Arriving.{reply-arrives, whole-reply}
+use Rattle.claims.proofs.Cleared.{clean-after-fault, clean-after-any-fault}
+use Rattle.claims.proofs.Ever.{whole-command-ever}
+use Rattle.claims.proofs.Handed.{no-half-command, no-half-command-ever}
+use Rattle.claims.proofs.Replies.{read-back}
 
 pub ours : Claimed step
-ours = record { no-half-command = no-half-command; whole-command = whole-command; clear-reached = clear-reached; clean-after-fault = clean-after-fault; rule-for-every = rule-for-every }
-
-pub command-after-clear : CommandAfterClear step
-command-after-clear u control pieces calls room stored sound success sent fits =
-    whole-command _ pieces calls room (stored-again u control stored sound success) (waiting-again u control stored sound success) sent fits
+ours = record {
+  no-half-command = no-half-command;
+  no-half-command-ever = no-half-command-ever;
+  acts-only-on = acts-only-on;
+  acts-only-on-ever = acts-only-on-ever;
+  whole-command = whole-command;
+  whole-command-ever = whole-command-ever;
+  clear-reached = clear-reached;
+  clear-reached-polled = clear-reached-polled;
+  clear-reached-halted = clear-reached-halted;
+  survive = survive;
+  clean-after-fault = clean-after-fault;
+  clean-after-any-fault = clean-after-any-fault;
+  command-after-clear = command-after-clear;
+  rule-for-every = rule-for-every;
+  replies-read = replies-read;
+  read-back = read-back;
+  reply-arrives = reply-arrives;
+  whole-reply = whole-reply;
+}

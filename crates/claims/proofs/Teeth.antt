@@ -1,34 +1,47 @@
 -- What the claim on messages shuts out: histories that no port may leave on the wire. Each is refuted by computation, with no unit named.
 -- Assumes nothing.
 use Prim.Native.Nat.{ℕ, _-_}
-use mathlib.Core.Path.{_≡_, refl, ap}
-use mathlib.Core.Bool.{true≢false, false≢true}
-use mathlib.Core.List.{List, [], _∷_, _++_}
+use mathlib.Core.Path.{_≡_, refl, sym, ap, _∙_, subst}
+use mathlib.Core.Bool.{false, true≢false}
+use mathlib.Core.List.{List, [], _∷_, _++_, append-nil, append-assoc}
 use native.Mathlib.Omega.{arith}
-use lib.ListN.{getD, replicate}
-use Rattle.rules.specs.Choice.{_and_, pick}
+use lib.ListN.{length, replicate}
+use Rattle.rules.specs.Choice.{no, _≠ᵇ_, _or_, _and_, pick}
 use Rattle.rules.specs.Answers.{only}
 use Rattle.port.specs.Step.{Call, out-packet, take-into, bus-reset, setup-of}
-use Rattle.claims.specs.Wire.{Event, carried, heardPacket, heardSetup, heard, emptied, arrived, remembered, Legal}
+use Rattle.port.specs.Trace.{Event}
+use Rattle.claims.specs.Wire.{heardPacket, heardSetup, heard, heardOf}
+use Rattle.claims.specs.Acted.{Acting}
+use Rattle.claims.specs.Handed.{Brought, Allowed, Legal, AllBrought}
+use Rattle.claims.proofs.Parse.{parse, skipped, searched, brought-found}
 
 -- ** how the histories are written
 
 abbrev told : Call → ℕ → List ℕ → Event
 told c number bytes = record { call = c; answer = record { verdict = only number; bytes = bytes } }
 
--- a command header of `size` data bytes and what follows it, accepted
+-- a packet that is accepted: the header of a command with `size` data bytes, and what follows it; and one without a header
 abbrev sent : ℕ → ℕ → ℕ → List ℕ → Event
 sent tag size end more = told (out-packet ((1 ∷ tag ∷ (255 - tag) ∷ 0 ∷ size ∷ 0 ∷ 0 ∷ 0 ∷ end ∷ 0 ∷ 0 ∷ 0 ∷ []) ++ more)) 0 []
 
--- SETP, and 27 with a space before it and a newline behind
+abbrev more : List ℕ → Event
+more s = told (out-packet s) 0 []
+
+abbrev pub handed : List ℕ → Event
+handed bytes = told (take-into 1024) 0 bytes
+
+-- SETP; 27 with a space before it and a newline behind; and .5 with a newline
 abbrev SETP : List ℕ
 SETP = 0x53 ∷ 0x45 ∷ 0x54 ∷ 0x50 ∷ []
 
 abbrev TO-27 : List ℕ
 TO-27 = 0x20 ∷ 0x32 ∷ 0x37 ∷ 0x0A ∷ []
 
-abbrev handed : List ℕ → Event
-handed bytes = told (take-into 1024) 0 bytes
+abbrev SETP-27 : List ℕ
+SETP-27 = 0x53 ∷ 0x45 ∷ 0x54 ∷ 0x50 ∷ 0x20 ∷ 0x32 ∷ 0x37 ∷ []
+
+abbrev AND-A-HALF : List ℕ
+AND-A-HALF = 0x2E ∷ 0x35 ∷ 0x0A ∷ []
 
 -- a packet with a wrong inverse, which halts Bulk-OUT
 abbrev faulty : Event
@@ -56,86 +69,166 @@ abbrev begins : Event
 begins = sent 1 60 1 (replicate 52 7)
 
 abbrev goes-on : Event
-goes-on = told (out-packet (replicate 8 7)) 0 []
+goes-on = more (replicate 8 7)
 
--- two lists that begin with different bytes
-unlike : (l r : List ℕ) → (getD l 0 0 ≡ getD r 0 0 → ⊥) → l ≡ r → ⊥
-unlike l r n e = n (ap (λ (k : List ℕ). getD k 0 0) e)
+-- ** how they are refuted
+
+legal-last : (Source : List Event → List ℕ → Type 0) (before es : List Event) (e : Event) → Legal Source before (es ++ (e ∷ [])) → Allowed Source (before ++ es) (heardOf e)
+legal-last Source before [] e l = subst (λ (b : List Event). Allowed Source b (heardOf e)) (sym (append-nil before)) (l .0)
+legal-last Source before (f ∷ es) e l = subst (λ (b : List Event). Allowed Source b (heardOf e)) (append-assoc before (f ∷ []) es) (legal-last Source (before ++ (f ∷ [])) es e (l .1))
+
+-- no way of cutting the history brings the message
+pub bad : (es : List Event) (m : List ℕ) → searched 64 es m ≡ false → AllBrought 64 (es ++ (handed m ∷ [])) → ⊥
+unfolding heard pick
+bad es m e l = true≢false (sym (brought-found 64 refl (omega arith) es m (legal-last (Brought 64) [] es (handed m) l)) ∙ e)
 
 -- every definition that a history computes with
-opened : ℕ
-unfolding heard heardPacket heardSetup carried remembered arrived pick _and_
+unfoldable pub opened : ℕ
+unfolding searched parse skipped heard heardPacket heardSetup pick _and_ _or_ no _≠ᵇ_
 opened = 0
 
--- ** a good one: the message is whole, and a halt leaves it
+-- ** the incident, and its kind
 
-pub whole : Legal emptied (sent 1 4 0 SETP ∷ sent 2 4 1 TO-27 ∷ faulty ∷ handed (SETP ++ TO-27) ∷ begins ∷ goes-on ∷ handed (replicate 60 7) ∷ [])
+-- `SETP 27.5` and a newline, its TransferSize damaged to 7: what is surplus is not left out
+pub damaged-size : AllBrought 64 (sent 1 7 1 (SETP-27 ++ AND-A-HALF ++ (0 ∷ 0 ∷ [])) ∷ handed SETP-27 ∷ []) → ⊥
 unfolding opened
-whole = (refl, (refl, (tt, ((refl, refl), (refl, (refl, ((refl, refl), tt)))))))
+damaged-size = bad (sent 1 7 1 (SETP-27 ++ AND-A-HALF ++ (0 ∷ 0 ∷ [])) ∷ []) SETP-27 refl
 
--- ** bad ones
-
--- bytes that no transfer brought
-pub invented : (bytes : List ℕ) → Legal emptied (handed bytes ∷ []) → ⊥
+-- a transfer of 10 bytes ended in a short packet after 8: the next header does not make up the rest
+pub cut-short : AllBrought 64 (sent 1 10 1 (SETP-27 ++ (0x2E ∷ [])) ∷ sent 2 4 1 SETP ∷ handed (SETP-27 ++ (0x2E ∷ 1 ∷ 2 ∷ [])) ∷ []) → ⊥
 unfolding opened
-invented bytes l = false≢true (l .0 .0)
+cut-short = bad (sent 1 10 1 (SETP-27 ++ (0x2E ∷ [])) ∷ sent 2 4 1 SETP ∷ []) (SETP-27 ++ (0x2E ∷ 1 ∷ 2 ∷ [])) refl
 
--- other bytes than those sent
-pub altered : Legal emptied (sent 1 4 1 SETP ∷ handed TO-27 ∷ []) → ⊥
+-- 52 of 60 bytes, an empty packet, and the next header as the rest
+pub given-up : AllBrought 64 (begins ∷ more [] ∷ sent 2 4 1 SETP ∷ handed (replicate 52 7 ++ (1 ∷ 2 ∷ 253 ∷ 0 ∷ 4 ∷ 0 ∷ 0 ∷ 0 ∷ [])) ∷ []) → ⊥
 unfolding opened
-altered l = unlike TO-27 SETP (λ e. omega arith) (l .1 .0 .1)
+given-up = bad (begins ∷ more [] ∷ sent 2 4 1 SETP ∷ []) (replicate 52 7 ++ (1 ∷ 2 ∷ 253 ∷ 0 ∷ 4 ∷ 0 ∷ 0 ∷ 0 ∷ [])) refl
 
--- a message before its end: no transfer is marked, or the marked one is not complete
-pub too-soon : Legal emptied (sent 1 4 0 SETP ∷ handed SETP ∷ []) → ⊥
+-- the right bytes in packets of the wrong length: a short one in the middle
+pub short-in-the-middle : AllBrought 64 (begins ∷ more (replicate 4 7) ∷ more (replicate 4 7) ∷ handed (replicate 60 7) ∷ []) → ⊥
 unfolding opened
-too-soon l = false≢true (l .1 .0 .0)
+short-in-the-middle = bad (begins ∷ more (replicate 4 7) ∷ more (replicate 4 7) ∷ []) (replicate 60 7) refl
 
-pub half-a-transfer : Legal emptied (begins ∷ handed (replicate 52 7) ∷ []) → ⊥
+-- bytes behind the alignment, and an alignment byte that is not 0
+pub surplus : AllBrought 64 (sent 1 4 1 (SETP ++ (0 ∷ 0 ∷ 0 ∷ 0 ∷ [])) ∷ handed SETP ∷ []) → ⊥
 unfolding opened
-half-a-transfer l = false≢true (l .1 .0 .0)
+surplus = bad (sent 1 4 1 (SETP ++ (0 ∷ 0 ∷ 0 ∷ 0 ∷ [])) ∷ []) SETP refl
 
--- the first half, kept after a halt
-pub half-kept : Legal emptied (sent 1 4 0 SETP ∷ faulty ∷ clear-feature ∷ sent 2 4 1 TO-27 ∷ handed (SETP ++ TO-27) ∷ []) → ⊥
+pub misaligned : AllBrought 64 (sent 1 3 1 SETP ∷ handed (0x53 ∷ 0x45 ∷ 0x54 ∷ []) ∷ []) → ⊥
 unfolding opened
-half-kept l = unlike (SETP ++ TO-27) TO-27 (λ e. omega arith) (l .1 .1 .1 .1 .0 .1)
+misaligned = bad (sent 1 3 1 SETP ∷ []) (0x53 ∷ 0x45 ∷ 0x54 ∷ []) refl
 
-pub half-kept-by-host : Legal emptied (sent 1 4 0 SETP ∷ set-feature ∷ clear-feature ∷ sent 2 4 1 TO-27 ∷ handed (SETP ++ TO-27) ∷ []) → ⊥
+-- a header with tag 0, a wrong inverse and every reserved byte set; and with one of them
+pub bad-header : AllBrought 64 (more ((1 ∷ 0 ∷ 1 ∷ 1 ∷ 4 ∷ 0 ∷ 0 ∷ 0 ∷ 3 ∷ 1 ∷ 1 ∷ 1 ∷ []) ++ SETP) ∷ handed SETP ∷ []) → ⊥
 unfolding opened
-half-kept-by-host l = unlike (SETP ++ TO-27) TO-27 (λ e. omega arith) (l .1 .1 .1 .1 .0 .1)
+bad-header = bad (more ((1 ∷ 0 ∷ 1 ∷ 1 ∷ 4 ∷ 0 ∷ 0 ∷ 0 ∷ 3 ∷ 1 ∷ 1 ∷ 1 ∷ []) ++ SETP) ∷ []) SETP refl
 
--- one transfer, joined across a break or an abort
-pub joined-across : Legal emptied (begins ∷ clear-feature ∷ goes-on ∷ handed (replicate 60 7) ∷ []) → ⊥
+pub reserved-byte : AllBrought 64 (more ((1 ∷ 1 ∷ 254 ∷ 0 ∷ 4 ∷ 0 ∷ 0 ∷ 0 ∷ 1 ∷ 0 ∷ 0 ∷ 1 ∷ []) ++ SETP) ∷ handed SETP ∷ []) → ⊥
 unfolding opened
-joined-across l = false≢true (l .1 .1 .1 .0 .0)
+reserved-byte = bad (more ((1 ∷ 1 ∷ 254 ∷ 0 ∷ 4 ∷ 0 ∷ 0 ∷ 0 ∷ 1 ∷ 0 ∷ 0 ∷ 1 ∷ []) ++ SETP) ∷ []) SETP refl
 
-pub joined-across-abort : Legal emptied (begins ∷ abort ∷ goes-on ∷ handed (replicate 60 7) ∷ []) → ⊥
-unfolding opened
-joined-across-abort l = false≢true (l .1 .1 .1 .0 .0)
+-- ** other bytes than those sent
 
--- the same message twice
-pub twice : Legal emptied (sent 1 4 1 SETP ∷ handed SETP ∷ handed SETP ∷ []) → ⊥
+pub invented : AllBrought 64 (handed SETP ∷ []) → ⊥
 unfolding opened
-twice l = false≢true (l .1 .1 .0 .0)
+invented = bad [] SETP refl
 
--- the second half alone
-pub second-half-alone : Legal emptied (sent 1 4 0 SETP ∷ sent 2 4 1 TO-27 ∷ handed TO-27 ∷ []) → ⊥
+pub altered : AllBrought 64 (sent 1 4 1 SETP ∷ handed TO-27 ∷ []) → ⊥
 unfolding opened
-second-half-alone l = unlike TO-27 (SETP ++ TO-27) (λ e. omega arith) (l .1 .1 .0 .1)
+altered = bad (sent 1 4 1 SETP ∷ []) TO-27 refl
 
--- a message that a clear, SET_CONFIGURATION or a bus reset dropped
-pub dropped-by-clear : Legal emptied (sent 1 4 1 SETP ∷ clear ∷ handed SETP ∷ []) → ⊥
+pub wrong-order : AllBrought 64 (sent 1 4 0 SETP ∷ sent 2 4 1 TO-27 ∷ handed (TO-27 ++ SETP) ∷ []) → ⊥
 unfolding opened
-dropped-by-clear l = false≢true (l .1 .1 .0 .0)
+wrong-order = bad (sent 1 4 0 SETP ∷ sent 2 4 1 TO-27 ∷ []) (TO-27 ++ SETP) refl
 
-pub dropped-by-configuration : Legal emptied (sent 1 4 1 SETP ∷ set-configuration ∷ handed SETP ∷ []) → ⊥
+pub second-half-alone : AllBrought 64 (sent 1 4 0 SETP ∷ sent 2 4 1 TO-27 ∷ handed TO-27 ∷ []) → ⊥
 unfolding opened
-dropped-by-configuration l = false≢true (l .1 .1 .0 .0)
+second-half-alone = bad (sent 1 4 0 SETP ∷ sent 2 4 1 TO-27 ∷ []) TO-27 refl
 
-pub dropped-by-reset : Legal emptied (sent 1 4 1 SETP ∷ told bus-reset 0 [] ∷ handed SETP ∷ []) → ⊥
+-- nothing, for a message
+pub empty-message : AllBrought 64 (sent 1 4 1 SETP ∷ handed [] ∷ []) → ⊥
 unfolding opened
-dropped-by-reset l = false≢true (l .1 .1 .0 .0)
+empty-message = bad (sent 1 4 1 SETP ∷ []) [] refl
 
--- data taken in while a message waits
-pub run-over : Legal emptied (sent 1 4 1 SETP ∷ sent 2 4 1 TO-27 ∷ []) → ⊥
+-- ** too soon: no transfer is marked as the end, or the marked one is not complete, or it is not the last
+
+pub too-soon : AllBrought 64 (sent 1 4 0 SETP ∷ handed SETP ∷ []) → ⊥
 unfolding opened
-run-over l = true≢false (l .1 .0)
+too-soon = bad (sent 1 4 0 SETP ∷ []) SETP refl
+
+pub half-a-transfer : AllBrought 64 (begins ∷ handed (replicate 52 7) ∷ []) → ⊥
+unfolding opened
+half-a-transfer = bad (begins ∷ []) (replicate 52 7) refl
+
+pub run-over : AllBrought 64 (sent 1 4 1 SETP ∷ sent 2 4 1 TO-27 ∷ handed (SETP ++ TO-27) ∷ []) → ⊥
+unfolding opened
+run-over = bad (sent 1 4 1 SETP ∷ sent 2 4 1 TO-27 ∷ []) (SETP ++ TO-27) refl
+
+pub run-over-by-the-next : AllBrought 64 (sent 1 4 1 SETP ∷ sent 2 4 1 TO-27 ∷ handed SETP ∷ []) → ⊥
+unfolding opened
+run-over-by-the-next = bad (sent 1 4 1 SETP ∷ sent 2 4 1 TO-27 ∷ []) SETP refl
+
+-- ** the first half, kept over a halt; one transfer, joined across a break or an abort
+
+pub half-kept : AllBrought 64 (sent 1 4 0 SETP ∷ faulty ∷ clear-feature ∷ sent 2 4 1 TO-27 ∷ handed (SETP ++ TO-27) ∷ []) → ⊥
+unfolding opened
+half-kept = bad (sent 1 4 0 SETP ∷ faulty ∷ clear-feature ∷ sent 2 4 1 TO-27 ∷ []) (SETP ++ TO-27) refl
+
+pub half-kept-by-host : AllBrought 64 (sent 1 4 0 SETP ∷ set-feature ∷ clear-feature ∷ sent 2 4 1 TO-27 ∷ handed (SETP ++ TO-27) ∷ []) → ⊥
+unfolding opened
+half-kept-by-host = bad (sent 1 4 0 SETP ∷ set-feature ∷ clear-feature ∷ sent 2 4 1 TO-27 ∷ []) (SETP ++ TO-27) refl
+
+pub joined-across : AllBrought 64 (begins ∷ clear-feature ∷ goes-on ∷ handed (replicate 60 7) ∷ []) → ⊥
+unfolding opened
+joined-across = bad (begins ∷ clear-feature ∷ goes-on ∷ []) (replicate 60 7) refl
+
+pub joined-across-abort : AllBrought 64 (begins ∷ abort ∷ goes-on ∷ handed (replicate 60 7) ∷ []) → ⊥
+unfolding opened
+joined-across-abort = bad (begins ∷ abort ∷ goes-on ∷ []) (replicate 60 7) refl
+
+-- ** the same message twice, and one that a clear, SET_CONFIGURATION or a reset dropped
+
+pub twice : AllBrought 64 (sent 1 4 1 SETP ∷ handed SETP ∷ handed SETP ∷ []) → ⊥
+unfolding opened
+twice = bad (sent 1 4 1 SETP ∷ handed SETP ∷ []) SETP refl
+
+pub dropped-by-clear : AllBrought 64 (sent 1 4 1 SETP ∷ clear ∷ handed SETP ∷ []) → ⊥
+unfolding opened
+dropped-by-clear = bad (sent 1 4 1 SETP ∷ clear ∷ []) SETP refl
+
+pub dropped-by-configuration : AllBrought 64 (sent 1 4 1 SETP ∷ set-configuration ∷ handed SETP ∷ []) → ⊥
+unfolding opened
+dropped-by-configuration = bad (sent 1 4 1 SETP ∷ set-configuration ∷ []) SETP refl
+
+pub dropped-by-reset : AllBrought 64 (sent 1 4 1 SETP ∷ told bus-reset 0 [] ∷ handed SETP ∷ []) → ⊥
+unfolding opened
+dropped-by-reset = bad (sent 1 4 1 SETP ∷ told bus-reset 0 [] ∷ []) SETP refl
+
+-- ** what a TRIGGER, a refusal and a pulse may not be told for (ActsOnlyOn)
+
+-- the bytes of a TRIGGER, as data of a transfer
+abbrev TRIGGER : List ℕ
+TRIGGER = 128 ∷ 9 ∷ 246 ∷ 0 ∷ 0 ∷ 0 ∷ 0 ∷ 0 ∷ 0 ∷ 0 ∷ 0 ∷ 0 ∷ []
+
+abbrev telling : Call → ℕ → ℕ → List ℕ → Event
+telling c number tells bytes = record { call = c; answer = record { verdict = record { number = number; tells = tells }; bytes = bytes } }
+
+pub trigger-in-data : Acting 0 (sent 1 64 1 (replicate 52 7) ∷ telling (out-packet TRIGGER) 0 1 [] ∷ []) → ⊥
+unfolding opened
+trigger-in-data a = let k : _≡_ {A = ℕ} 12 0 = a .1 .0 .triggered refl .0 .0 in omega arith
+
+pub trigger-with-a-refusal : Acting 0 (telling (out-packet TRIGGER) 5 1 [] ∷ []) → ⊥
+unfolding opened
+trigger-with-a-refusal a = let k : _≡_ {A = ℕ} 5 0 = a .0 .triggered refl .1 in omega arith
+
+pub trigger-by-a-take : Acting 0 (telling (take-into 1024) 0 1 SETP ∷ []) → ⊥
+unfolding opened
+trigger-by-a-take a = a .0 .triggered refl .0
+
+pub trigger-not-told : Acting 0 (telling (out-packet TRIGGER) 0 0 [] ∷ []) → ⊥
+unfolding opened
+trigger-not-told a = let k : _≡_ {A = ℕ} 0 1 = a .0 .triggers (refl, record { tag = 9; some = omega arith; fits = omega arith; bytes = refl }) refl in omega arith
+
+pub half-with-16 : Acting 0 (telling (take-into 1024) 16 0 SETP ∷ []) → ⊥
+unfolding opened
+half-with-16 a = let k : _≡_ {A = ℕ} 4 0 = ap length (a .0 .refused (λ z. omega arith) .0) in omega arith

@@ -1,39 +1,53 @@
--- A whole command as a host sends it: cut into transfers of one byte or more, each into packets of P with the rest last, with other calls between them.
+-- How a host sends a command, byte by byte: cut into transfers of one byte or more, each a header, its data and its alignment bytes, cut into packets of P.
+-- And the two other headers that a host sends. Nothing here is the port's: no unit, no reader, no rule.
 -- Assumes nothing.
-use Prim.Native.Nat.{ℕ, zero, suc, _-_, _/_, _%_, _≤_}
+use Prim.Native.Nat.{ℕ, zero, suc, _+_, _-_, _/_, _%_, _≤_}
 use mathlib.Core.Path.{_≡_}
-use mathlib.Core.Bool.{true, false}
 use mathlib.Core.List.{List, [], _∷_, _++_}
+use mathlib.Core.Logic.{_⊎_}
 use lib.ListN.{length, take, drop, replicate}
-use Rattle.port.specs.Parts.{isOpenOut, unfinished, outOf, isConfigured}
-use Rattle.port.specs.Answer.{Answer}
-use Rattle.port.specs.Device.{Device, isSound}
-use Rattle.port.specs.Step.{Call, setup-packet, out-packet, take-into, bus-reset, quiet}
-use Rattle.port.specs.Breaks.{isBreak}
-use Rattle.claims.specs.Wire.{Event}
 
--- a transfer of a command: its tag and its data
+-- a transfer of a command: the empty packets that come before it, its tag and its data
 pub record Piece : Type 0 where
+  pub empties : ℕ
   pub tag : ℕ
   pub bytes : List ℕ
+
+-- ** the data
 
 abbrev pub command : List Piece → List ℕ
 command [] = []
 command (p ∷ ps) = p .bytes ++ command ps
 
--- "legal headers": a tag from 1 to 255, and one byte or more
+-- tags from 1 to 255, and one byte or more in each transfer
 abbrev pub Good : List Piece → Type 0
 Good [] = Unit {0}
 Good (p ∷ ps) = (1 ≤ p .tag) × (p .tag ≤ 255) × (1 ≤ length (p .bytes)) × Good ps
 
+-- a command that a port can hold: "1,024 bytes"
+pub record Sendable (pieces : List Piece) : Type 0 where
+  pub good : Good pieces
+  pub some : 1 ≤ length (command pieces)
+  pub fits : length (command pieces) ≤ 1024
+
+-- ** the bytes of a transfer
+
 -- a number in four bytes, the least significant first
-abbrev fourBytes : ℕ → List ℕ
+abbrev pub fourBytes : ℕ → List ℕ
 fourBytes n = n % 256 ∷ n / 256 % 256 ∷ n / 65536 % 256 ∷ n / 16777216 % 256 ∷ []
 
--- "MsgID, bTag, bTagInverse, 0", TransferSize, the attributes with EOM, three zeros, the data, and zeros up to a multiple of four
-unfoldable pub transfer : ℕ → Piece → List ℕ
-transfer end p =
-    (1 ∷ p .tag ∷ (255 - p .tag) ∷ 0 ∷ []) ++ fourBytes (length (p .bytes)) ++ (end ∷ 0 ∷ 0 ∷ 0 ∷ []) ++ p .bytes ++ replicate ((4 - length (p .bytes) % 4) % 4) 0
+-- DEV_DEP_MSG_OUT: MsgID 1, the tag, its inverse, 0; TransferSize; the attributes, of which bit 0 is EOM; three zeros
+abbrev pub header : ℕ → ℕ → ℕ → List ℕ
+header tag size end = (1 ∷ tag ∷ (255 - tag) ∷ 0 ∷ []) ++ fourBytes size ++ (end ∷ 0 ∷ 0 ∷ 0 ∷ [])
+
+-- the data, and zeros up to a multiple of four
+abbrev pub aligned : List ℕ → List ℕ
+aligned d = d ++ replicate ((4 - length d % 4) % 4) 0
+
+abbrev pub transfer : ℕ → Piece → List ℕ
+transfer end p = header (p .tag) (length (p .bytes)) end ++ aligned (p .bytes)
+
+-- ** packets
 
 -- packets of `size` bytes, with the rest last; `most` is a number of packets that is not passed
 unfoldable pub cutUp : ℕ → ℕ → List ℕ → List (List ℕ)
@@ -41,54 +55,52 @@ cutUp zero size s = []
 cutUp (suc most) size [] = []
 cutUp (suc most) size (b ∷ s) = take size (b ∷ s) ∷ cutUp most size (drop size (b ∷ s))
 
-abbrev pub packetsOf : ℕ → ℕ → Piece → List (List ℕ)
-packetsOf size end p = cutUp (length (transfer end p)) size (transfer end p)
+abbrev pub packets : ℕ → List ℕ → List (List ℕ)
+packets size s = cutUp (length s) size s
 
--- the transfers one behind the other: only the last is marked as the end
+-- EOM: 1 in the last transfer, 0 in one that others follow
+abbrev pub mark : List Piece → ℕ
+mark [] = 1
+mark (p ∷ ps) = 0
+
+-- ALL THAT IS SENT: the transfers one behind the other, each with the empty packets before it
 unfoldable pub sending : ℕ → List Piece → List (List ℕ)
 sending size [] = []
-sending size (p ∷ []) = packetsOf size 1 p
-sending size (p ∷ q ∷ ps) = packetsOf size 0 p ++ sending size (q ∷ ps)
+sending size (p ∷ ps) = replicate (p .empties) [] ++ (packets size (transfer (mark ps) p) ++ sending size ps)
 
--- ** the calls: these packets in order, and between them anything but another packet, a take or a break
+-- ** the other headers, each a packet of twelve bytes
 
-abbrev pub packetsAmong : List Call → List (List ℕ)
-packetsAmong [] = []
-packetsAmong (setup-packet p ∷ cs) = packetsAmong cs
-packetsAmong (out-packet s ∷ cs) = s ∷ packetsAmong cs
-packetsAmong (take-into room ∷ cs) = packetsAmong cs
-packetsAmong (bus-reset ∷ cs) = packetsAmong cs
-packetsAmong (quiet q ∷ cs) = packetsAmong cs
+-- TRIGGER: MsgID 128, the tag, its inverse, 0 and eight more
+pub record IsTrigger (s : List ℕ) : Type 0 where
+  pub tag : ℕ
+  pub some : 1 ≤ tag
+  pub fits : tag ≤ 255
+  pub bytes : s ≡ 128 ∷ tag ∷ (255 - tag) ∷ 0 ∷ 0 ∷ 0 ∷ 0 ∷ 0 ∷ 0 ∷ 0 ∷ 0 ∷ 0 ∷ []
 
--- nothing is asked of the answer to a packet: that it is 0 is claimed
-abbrev pub Harmless : Call → Answer → Type 0
-Harmless (setup-packet p) a = isBreak (setup-packet p) a ≡ false
-Harmless (out-packet s) a = Unit {0}
-Harmless (take-into room) a = ⊥
-Harmless bus-reset a = isBreak bus-reset a ≡ false
-Harmless (quiet q) a = Unit {0}
+-- what a REQUEST asks for: its tag, how many bytes at most, whether to stop at a TermChar, and the byte that is one where that is so
+pub record Request : Type 0 where
+  pub tag : ℕ
+  pub size : ℕ
+  pub attributes : ℕ
+  pub char : ℕ
 
-abbrev pub Undisturbed : List Event → Type 0
-Undisturbed [] = Unit {0}
-Undisturbed (e ∷ es) = Harmless (e .call) (e .answer) × Undisturbed es
+-- REQUEST_DEV_DEP_MSG_IN: MsgID 2, the tag, its inverse, 0; TransferSize; the attributes, of which bit 1 is TermCharEnabled; TermChar; two zeros
+abbrev pub requestBytes : Request → List ℕ
+requestBytes r = (2 ∷ r .tag ∷ (255 - r .tag) ∷ 0 ∷ []) ++ fourBytes (r .size) ++ (r .attributes ∷ r .char ∷ 0 ∷ 0 ∷ [])
 
--- a packet is answered 0
-abbrev pub Taken : Call → Answer → Type 0
-Taken (setup-packet p) a = Unit {0}
-Taken (out-packet s) a = a .verdict .number ≡ 0
-Taken (take-into room) a = Unit {0}
-Taken bus-reset a = Unit {0}
-Taken (quiet q) a = Unit {0}
+pub record GoodRequest (r : Request) : Type 0 where
+  pub tag-some : 1 ≤ r .tag
+  pub tag-fits : r .tag ≤ 255
+  pub size-some : 1 ≤ r .size
+  pub size-fits : r .size ≤ 4294967295
+  pub flag : (r .attributes ≡ 0) ⊎ (r .attributes ≡ 2)
 
-abbrev pub Accepted : List Event → Type 0
-Accepted [] = Unit {0}
-Accepted (e ∷ es) = Taken (e .call) (e .answer) × Accepted es
+pub record IsRequest (s : List ℕ) : Type 0 where
+  pub request : Request
+  pub good : GoodRequest request
+  pub bytes : s ≡ requestBytes request
 
--- the unit waits for a command
-pub record Waiting (u : Device) : Type 0 where
-  pub sound : isSound u ≡ true
-  pub configured : isConfigured (u .state) ≡ true
-  pub running : outOf (u .state) .halted ≡ 0
-  pub unready : outOf (u .state) .message .ready ≡ 0
-  pub finished : unfinished (outOf (u .state)) ≡ false
-  pub closed : isOpenOut (outOf (u .state)) ≡ false
+-- packets that bring nothing of a command: each is empty, a REQUEST or a TRIGGER
+abbrev pub Others : List (List ℕ) → Type 0
+Others [] = Unit {0}
+Others (s ∷ ss) = ((s ≡ []) ⊎ (IsRequest s ⊎ IsTrigger s)) × Others ss

@@ -17,6 +17,9 @@ SET-FEATURE-OUT = 0x02 ∷ 3 ∷ 0 ∷ 0 ∷ 0x01 ∷ 0 ∷ 0 ∷ 0 ∷ []
 abbrev pub CLEAR-FEATURE-OUT : List ℕ
 CLEAR-FEATURE-OUT = 0x02 ∷ 1 ∷ 0 ∷ 0 ∷ 0x01 ∷ 0 ∷ 0 ∷ 0 ∷ []
 
+abbrev pub GET-STATUS-OUT : List ℕ
+GET-STATUS-OUT = 0x82 ∷ 0 ∷ 0 ∷ 0 ∷ 0x01 ∷ 0 ∷ 2 ∷ 0 ∷ []
+
 -- "a unit just configured", of packet size p, "with Bulk-OUT halted by the host"
 unfoldable pub halted : ℕ → Device
 halted p = after step (powerOn (record { packet = p }) .unit) (setup-of SET-CONFIGURATION-1 CONTROL ∷ setup-of SET-FEATURE-OUT CONTROL ∷ [])

@@ -14,8 +14,9 @@ use borrow.Author.Tests.{ne-eqb, eqb-true, eqb-false, ltb-false}
 use Rattle.rules.specs.Choice.{_=ᵇ_, pick, decide}
 use Rattle.rules.specs.Answers.{DONE, UNSOUND, UNCONFIGURED, WRONG-SIZE, HALTED, WAIT, NOT-IN-FOURS, SHORT-HEADER, BAD-TAG, UNKNOWN-MSGID, RESERVED, WRONG-LENGTH, TOO-LONG, OUT-OF-TURN, MISALIGNED, NO-ROW, NOT-NOW, unchanged, out-halted, leaves, only}
 use Rattle.rules.proofs.Choice.{pick-all, decide-all, at-true, at-false, no-true, not-no, none-left, none-right, eq-neb, or-left, not-both, decide-lines}
+use Rattle.wire.specs.Bytes.{byte}
 use Rattle.wire.specs.Header.{HEADER, OFF}
-use Rattle.wire.specs.Setup.{wValue, matches, row, toDevice, readSetup}
+use Rattle.wire.specs.Setup.{bRequest, matches, toDevice, readSetup}
 use Rattle.wire.specs.declared.types.Header.{Header}
 use Rattle.wire.specs.declared.types.Header.the-variants.{Message, Request, Trigger}
 use Rattle.wire.specs.declared.types.Row.{Row}
@@ -30,9 +31,9 @@ use Rattle.port.specs.In.{nothingToSend, inRules, poll}
 use Rattle.port.specs.Rows.{Reaction, answering, abortRules, outTag, inTag, initiateAbortOut, initiateAbortIn, checkAbortOut, checkAbortIn, initiateClear, checkClear, answerRow}
 use Rattle.port.specs.Device.{Device, Result, isSound, withState, unsentOf, zeroed, made, powerOn}
 use Rattle.port.specs.Calls.{refused, said, carriedOut, bulkOut, bulkIn, setupRules, asked, setupOutcome, answered, setup, takeRules, taking, take-message, offerRules, offerPlan, withReply, offer, thermostatRules, statusSet, setStatus, returned, panel, busReset, suspend}
-use Rattle.port.specs.Step.{in-poll, offer-reply, set-status, front-panel, bus-suspend, Call, setup-packet, out-packet, take-into, bus-reset, quiet, quietly, soundly, step}
+use Rattle.port.specs.Step.{in-poll, offer-reply, set-status, front-panel, bus-suspend, SetupPacket, Call, setup-packet, out-packet, take-into, bus-reset, quiet, quietly, soundly, step}
 use Rattle.port.specs.Lists.{bulk, faults, Kind, setup as setting-up, out, poll as polling, taking as takes, offering, status, panel as panels, reset, suspending, kindOf, own, ownList}
-use Rattle.port.specs.Laws.{OneOf, Stored, PowerOnSound, PowerOnAnswers, Orders, KeepsSound, KeepsStored, UnsoundRefused, OnlyUnsound, OwnNumbers, LeftAs, LeavesTable, Zeroed, Zeroes, SET-CONFIGURATION}
+use Rattle.port.specs.Laws.{OneOf, Stored, PowerOnSound, PowerOnAnswers, KeepsSound, KeepsStored, UnsoundRefused, OnlyUnsound, OwnNumbers, LeftAs, LeavesTable, Zeroed, Zeroes}
 use Rattle.port.specs.declared.types.Setting.{Setting}
 use Rattle.port.specs.declared.types.Split.{Split}
 use Rattle.port.specs.declared.types.Split.the-variants.{None, AbortOut, AbortIn, Clear}
@@ -63,12 +64,6 @@ pub power-on-answers : PowerOnAnswers
 unfolding powerOn
 power-on-answers setting =
     ⊎-elim (λ e. inl (e, at-true _ _ _ e)) (λ e. inr (e, at-false _ _ _ e)) (cases (isSize (setting .packet)))
-
--- ** the orders
-
-pub orders : Orders
-unfolding own
-orders st s h n = record { packets = refl; headers = refl; continuing = refl; polls = refl; setups = refl; takes = refl; offers = refl; panels = refl; aborts = refl }
 
 -- ** an unsound unit
 
@@ -145,7 +140,7 @@ abbrev Zero : Reaction → Type 0
 Zero r = r .answer .verdict .number ≡ DONE
 
 -- every row that is served is answered 0
-row-done : (st : State) (row : Row) → answerRow st row .answer .verdict .number ≡ DONE
+pub row-done : (st : State) (row : Row) → answerRow st row .answer .verdict .number ≡ DONE
 unfolding answerRow initiateAbortOut initiateAbortIn checkAbortOut checkAbortIn initiateClear checkClear
 row-done st (InitiateAbortBulkOut tag) =
     decide-all Zero (λ status. answering (status ∷ outTag (outOf st) ∷ [])) (abortRules (st .split) (isOpenOut (outOf st)) (outTag (outOf st)) tag) _ (refl, (refl, (refl, tt))) (λ _. refl)
@@ -413,42 +408,48 @@ leaves-table u c = by (step u c) (way u c)
     by r (halts n o l e s) z = rw l refl
     by r (does q z′ s t) z = absurd (z z′)
 
--- ** the stores at power-on, SET_CONFIGURATION and reset
+-- ** power-on, SET_CONFIGURATION and reset
 
--- the packet is no other row's
+-- a packet of request type 0 is no other row's
 abbrev isOfDevice : Setup → Type 0
 isOfDevice (Configure value) = Unit {0}
 isOfDevice (Asks row) = ⊥
 isOfDevice NoRow = Unit {0}
 
-of-device : (value : ℕ) → isOfDevice (readSetup (SET-CONFIGURATION value))
+of-device : (s : List ℕ) → byte s 0 ≡ 0 → isOfDevice (readSetup s)
 unfolding readSetup toDevice pick
-of-device value = by (matches (SET-CONFIGURATION value) 0 1 0 0) (wValue (SET-CONFIGURATION value))
-  where
-    by : (fits : Bool) (v : ℕ) → isOfDevice (row fits (Configure v))
-    by true v = tt
-    by false v = tt
+of-device s e = rw e (pick-all isOfDevice (bRequest s =ᵇ 9) _ _ (λ _. pick-all isOfDevice (matches s 0 1 0 0) _ _ (λ _. tt) (λ _. tt)) (λ _. tt))
+
+-- SET_CONFIGURATION and reset, answered 0, leave a unit that is made anew
+module _ (P : Device → Type 0) (anew : (setting : Setting) (configured : ℕ) → P (made setting configured)) where
+  abbrev Anew : Result → Type 0
+  Anew r = r .answer .verdict .number ≡ DONE → P (r .unit)
+
+  pub configures-anew : (u : Device) (p : SetupPacket) → byte (p .packet) 0 ≡ 0 → Anew (step u (setup-packet p))
+  unfolding step soundly setup setupOutcome answered asked
+  configures-anew u p e =
+      pick-all Anew (isSound u) _ _
+      (λ _. decide-all (λ (x : SetupOutcome). Anew (answered u x)) Denies (setupRules (length (p .packet)) (p .room)) _ (λ z. absurd (omega arith), tt)
+      (λ _. by (readSetup (p .packet)) (of-device (p .packet) e)))
+      (λ _ z. absurd (omega arith))
+    where
+      by : (x : Setup) → isOfDevice x → Anew (answered u (asked (u .state) x))
+      by (Configure value) k z = anew _ value
+      by (Asks row) k z = absurd k
+      by NoRow k z = absurd (omega arith)
+
+  pub resets-anew : (u : Device) → Anew (step u bus-reset)
+  unfolding step soundly busReset
+  resets-anew u = pick-all Anew (isSound u) _ _ (λ _ _. anew _ OFF) (λ _ z. absurd (omega arith))
 
 made-zeroed : (setting : Setting) (configured : ℕ) → Zeroed (made setting configured)
 unfolding made zeroed
 made-zeroed setting configured = (refl, refl)
 
 pub zeroes : Zeroes step
-unfolding step soundly busReset powerOn setup setupOutcome answered asked
+unfolding powerOn
 zeroes = record {
   power-on = λ setting. pick-all (λ (r : Result). Zeroed (r .unit)) (isSize (setting .packet)) _ _ (λ _. made-zeroed _ _) (λ _. made-zeroed _ _);
-  configured = λ u value control. pick-all P (isSound u) _ _ (λ _. configures u value control) (λ _ e. absurd (omega arith));
-  reset = λ u. pick-all P (isSound u) _ _ (λ _ _. made-zeroed _ _) (λ _ e. absurd (omega arith));
+  configured = λ u value control. configures-anew Zeroed made-zeroed u _ refl;
+  reset = resets-anew Zeroed made-zeroed;
 }
-  where
-    P : Result → Type 0
-    P r = r .answer .verdict .number ≡ DONE → Zeroed (r .unit)
-
-    by : (u : Device) (x : Setup) → isOfDevice x → P (answered u (asked (u .state) x))
-    by u (Configure value) k e = made-zeroed _ _
-    by u (Asks row) k e = absurd k
-    by u NoRow k e = absurd (omega arith)
-
-    configures : (u : Device) (value control : ℕ) → P (setup u (SET-CONFIGURATION value) control)
-    configures u value control =
-        decide-all (λ (x : SetupOutcome). P (answered u x)) Denies (setupRules (length (SET-CONFIGURATION value)) control) _ (λ e. absurd (omega arith), tt) (λ _. by u (readSetup (SET-CONFIGURATION value)) (of-device value))

@@ -30,7 +30,7 @@ use Rattle.port.specs.declared.types.Split.the-variants.{None, AbortOut,
 use Rattle.port.specs.declared.types.Effect.the-variants.{AbortsOut, AbortsIn}
 use Rattle.port.specs.declared.types.State.{State}
 use Rattle.port.proofs.Soundness.{PortSound, OutSound, Idle, SendingIn, Phase, is-closed, is-asked, is-sending, is-owed, phase-kept, InSound, ClearSound, SplitSound, Sound}
-use Rattle.port.proofs.KeepsOut.{broken-sound, halted-sound}
+use Rattle.port.proofs.KeepsOut.{halt-flag, broken-sound, halted-sound}
 
 -- ** Bulk-IN
 
@@ -235,12 +235,9 @@ module _ (st : State) (h : Sound st) where
   unfolding clearFeatureOut
   feature-out-sound =
       pick-all (λ (n : ℕ). Sound (withOut st (broken n (outOf st)))) (keepsHalt (st .split)) _ _
-      (λ _. broken-sound st h (outOf st .halted) out-halted (kept-halted (st .split) (h .split)))
+      (λ _. broken-sound st h (outOf st .halted) (halt-flag st h) (kept-halted (st .split) (h .split)))
       (λ e. broken-sound st h OFF (omega arith) (λ c. absurd (true≢false (sym c ∙ e))))
     where
-      out-halted : outOf st .halted ≤ 1
-      out-halted = ⊎-elim (λ w. let z = w .1 .running in omega arith) (λ w. w .1 .halted) (h .out)
-
       kept-halted : (s : Split) → SplitSound s (outOf st) (inOf st) → keepsHalt s ≡ true → outOf st .halted ≡ 1
       kept-halted None k e = absurd (false≢true e)
       kept-halted (AbortOut count) k e = k .1

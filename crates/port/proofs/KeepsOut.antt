@@ -51,8 +51,11 @@ module _ (st : State) (h : Sound st) where
   pub out-held : outOf st .message .held ≤ STORE
   out-held = ⊎-elim (λ w. let r = w .1 .room in omega arith) (λ w. w .1 .held) (h .out)
 
-  out-ready : outOf st .message .ready ≤ 1
+  pub out-ready : outOf st .message .ready ≤ 1
   out-ready = ⊎-elim (λ w. let r = w .1 .unready in omega arith) (λ w. w .1 .ready) (h .out)
+
+  pub halt-flag : outOf st .halted ≤ 1
+  halt-flag = ⊎-elim (λ w. let z = w .1 .running in omega arith) (λ w. w .1 .halted) (h .out)
 
   -- a ready message has a byte
   out-whole : outOf st .message .ready ≡ 1 → outOf st .message .held ≡ 0 → ⊥

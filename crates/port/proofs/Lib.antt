@@ -13,3 +13,9 @@ pub mod Alive
 pub mod Clearing
 pub mod Answered
 pub mod Silent
+pub mod When
+pub mod Halts
+pub mod Transfers
+pub mod Sending
+pub mod Readers
+pub mod Replies

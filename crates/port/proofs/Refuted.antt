@@ -1,6 +1,6 @@
 -- The statement is refuted, by computation, of each idle unit: one answer of one row is not the paper's.
 -- Assumes nothing.
-use Prim.Native.Nat.{ℕ, _<_, _/_, _%_}
+use Prim.Native.Nat.{ℕ, _%_}
 use mathlib.Core.Path.{_≡_, ap}
 use mathlib.Core.List.{List, []}
 use native.Mathlib.Omega.{arith}
@@ -39,10 +39,10 @@ pub no-pretending : Cases pretending → ⊥
 unfolding computed table played pretending
 no-pretending e = let none : _≡_ {A = ℕ} 0 16 = ap (λ (rows : List (List Answer)). at 2 2 rows .verdict .number) e in omega arith
 
--- case g: 52 data bytes came, and no other count that two bytes hold is the paper's
-pub no-made-up-count : (n : ℕ) → n < 65536 → (n ≡ 52 → ⊥) → Cases (madeUp n) → ⊥
+-- case g and once more: 52 data bytes came, and then 116, so that no one count is right
+pub no-made-up-count : (n : ℕ) → Cases (madeUp n) → ⊥
 unfolding computed table played madeUp
-no-made-up-count n small wrong e =
-    let low : n % 256 ≡ 0x34 = ap (λ (rows : List (List Answer)). getD (at 9 3 rows .bytes) 4 0) e in
-    let high : n / 256 % 256 ≡ 0 = ap (λ (rows : List (List Answer)). getD (at 9 3 rows .bytes) 5 0) e in
-    wrong (omega arith)
+no-made-up-count n e =
+    let one : n % 256 ≡ 0x34 = ap (λ (rows : List (List Answer)). getD (at 9 3 rows .bytes) 4 0) e in
+    let two : n % 256 ≡ 0x74 = ap (λ (rows : List (List Answer)). getD (at 10 4 rows .bytes) 4 0) e in
+    omega arith

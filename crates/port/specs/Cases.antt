@@ -90,6 +90,11 @@ table =
       message 5 100 1 (replicate 52 7) ∷ setup 0xA2 1 5 0x01 2 ∷ setup 0xA2 2 0 0x01 8 ∷ [],
       number 0 ∷ says (0x01 ∷ 5 ∷ []) ∷ says (0x01 ∷ 0x00 ∷ 0x00 ∷ 0x00 ∷ 0x34 ∷ 0x00 ∷ 0x00 ∷ 0x00 ∷ []) ∷ [],
     )
+    -- g once more, two packets in: the count is of both
+    ∷ (
+      message 5 200 1 (replicate 52 7) ∷ out-packet (replicate 64 7) ∷ setup 0xA2 1 5 0x01 2 ∷ setup 0xA2 2 0 0x01 8 ∷ [],
+      number 0 ∷ number 0 ∷ says (0x01 ∷ 5 ∷ []) ∷ says (0x01 ∷ 0x00 ∷ 0x00 ∷ 0x00 ∷ 0x74 ∷ 0x00 ∷ 0x00 ∷ 0x00 ∷ []) ∷ [],
+    )
     -- h: reply 51: one packet of 63
     ∷ (
       offered (replicate 51 7) ∷ request 1 1000 ∷ poll ∷ poll ∷ [],

@@ -3,28 +3,23 @@
 use Prim.Native.Nat.{ℕ, _≤_}
 use mathlib.Core.Path.{_≡_}
 use mathlib.Core.Bool.{true, false}
-use mathlib.Core.List.{List, [], _∷_, _++_}
+use mathlib.Core.List.{List, [], _∷_}
 use mathlib.Core.Logic.{_⊎_}
 use lib.ListN.{length, replicate}
-use Rattle.rules.specs.Answers.{DONE, UNSOUND, WRONG-SIZE, NOT-IN-FOURS, RESERVED, WRONG-LENGTH, MISALIGNED, NO-ROW, SUCCESS, FAILED, TRANSFER-NOT-IN-PROGRESS, SPLIT-IN-PROGRESS, Leaves, as-ruled, unchanged, out-halted, leaves, done}
-use Rattle.rules.specs.Choice.{named}
-use Rattle.wire.specs.Header.{OFF, readingRules}
+use Rattle.rules.specs.Answers.{DONE, UNSOUND, WRONG-SIZE, SUCCESS, Leaves, as-ruled, unchanged, out-halted, leaves, done}
+use Rattle.wire.specs.Header.{OFF}
 use Rattle.wire.specs.Setup.{CONTROL}
-use Rattle.wire.specs.declared.types.Header.{Header}
+use Rattle.wire.specs.When.{at}
 use Rattle.port.specs.Parts.{STORE, FULL-SPEED, isSize, isOpenOut, unfinished, outOf, inOf, packetSize, isConfigured, isClear, haltedOut}
-use Rattle.port.specs.Out.{moreRules, headerRules, outRules}
 use Rattle.port.specs.Answer.{Answer, number}
-use Rattle.port.specs.In.{inRules}
-use Rattle.port.specs.Rows.{abortRules}
 use Rattle.port.specs.declared.types.Setting.{Setting}
-use Rattle.port.specs.declared.types.State.{State}
 use Rattle.port.specs.Device.{Device, Result, isSound, withState, made, powerOn}
-use Rattle.port.specs.Calls.{refused, setupRules, takeRules, offerRules, thermostatRules}
+use Rattle.port.specs.Calls.{refused}
 use Rattle.port.specs.Step.{in-poll, Call, bus-reset, quiet, setup-of, Stepping, after}
 use Rattle.port.specs.Live.{live}
 use Rattle.port.specs.Survivors.{survivors}
 use Rattle.port.specs.Breaks.{isBreak}
-use Rattle.port.specs.Lists.{bulk, faults, Kind, setup, taking, offering, panel, reset, kindOf, own, ownList}
+use Rattle.port.specs.Lists.{Kind, kindOf, own, ownList}
 
 -- n is one of the list
 abbrev pub OneOf : ℕ → List ℕ → Type 0
@@ -80,22 +75,6 @@ pub record Answered (does : Stepping) (k : Kind) (n : ℕ) : Type 0 where
 abbrev pub EachAnswered : Stepping → Type 0
 EachAnswered does = (k : Kind) (n : ℕ) → OneOf n (DONE ∷ own k) → Answered does k n
 
--- "The first that applies decides": the lists of rules have the paper's numbers in the paper's order. 1 is asked before every call (UnsoundRefused); a
--- header's 10 stands by MsgID behind its 9, and setup's 15 behind its list
-pub record InOrder (st : State) (s : List ℕ) (h : Header) (n : ℕ) : Type 0 where
-  pub packets : UNSOUND ∷ named (outRules st n) ≡ bulk []
-  pub headers : named (readingRules s) ++ (RESERVED ∷ []) ++ named (headerRules st s h) ≡ faults
-  pub continuing : named (moreRules n n s) ≡ NOT-IN-FOURS ∷ WRONG-LENGTH ∷ MISALIGNED ∷ []
-  pub polls : UNSOUND ∷ named (inRules st n) ≡ bulk []
-  pub setups : UNSOUND ∷ named (setupRules n n) ++ (NO-ROW ∷ []) ≡ own setup
-  pub takes : UNSOUND ∷ named (takeRules st n) ≡ own taking
-  pub offers : UNSOUND ∷ named (offerRules st n) ≡ own offering
-  pub panels : UNSOUND ∷ named (thermostatRules st) ≡ own panel
-  pub aborts : named (abortRules (st .split) true n n) ≡ SPLIT-IN-PROGRESS ∷ FAILED ∷ TRANSFER-NOT-IN-PROGRESS ∷ []
-
-abbrev pub Orders : Type 0
-Orders = (st : State) (s : List ℕ) (h : Header) (n : ℕ) → InOrder st s h n
-
 -- ** what a refusal leaves: the whole unit, no byte of a lent buffer, nothing told
 
 abbrev pub LeftAs : Leaves → Device → Result → Type 0
@@ -127,7 +106,15 @@ INITIATE-CLEAR = 0xA1 ∷ 5 ∷ 0 ∷ 0 ∷ 0 ∷ 0 ∷ 1 ∷ 0 ∷ []
 abbrev pub CHECK-CLEAR-STATUS : List ℕ
 CHECK-CLEAR-STATUS = 0xA1 ∷ 6 ∷ 0 ∷ 0 ∷ 0 ∷ 0 ∷ 2 ∷ 0 ∷ []
 
--- the answer of CHECK_CLEAR_STATUS that says SUCCESS
+abbrev pub CLEAR-FEATURE-IN : List ℕ
+CLEAR-FEATURE-IN = 0x02 ∷ 1 ∷ 0 ∷ 0 ∷ 0x82 ∷ 0 ∷ 0 ∷ 0 ∷ []
+
+-- SUCCESS: answered 0, with a first byte of 01
+pub record Succeeds (a : Answer) : Type 0 where
+  pub number : a .verdict .number ≡ 0
+  pub status : at (a .bytes) 0 ≡ 0x01
+
+-- the answer of CHECK_CLEAR_STATUS, byte by byte, that has it
 abbrev pub success : Answer
 success = record { verdict = done; bytes = SUCCESS ∷ 0 ∷ [] }
 
@@ -137,11 +124,15 @@ Reached does u control room =
     (does u (setup-of CHECK-CLEAR-STATUS control) .answer ≡ success)
     ⊎ (does (does u (quiet (in-poll room)) .unit) (setup-of CHECK-CLEAR-STATUS control) .answer ≡ success)
 
-pub record Ready (u : Device) (control room : ℕ) : Type 0 where
+-- a unit that serves setup packets into a control buffer of this length
+pub record Attends (u : Device) (control : ℕ) : Type 0 where
   pub sound : isSound u ≡ true
   pub configured : isConfigured (u .state) ≡ true
-  pub running : inOf (u .state) .halted ≡ OFF
   pub control-fits : CONTROL ≤ control
+
+pub record Ready (u : Device) (control room : ℕ) : Type 0 where
+  pub attends : Attends u control
+  pub running : inOf (u .state) .halted ≡ OFF
   pub room-fits : packetSize (u .state) ≤ room
 
 -- "With Bulk-IN not halted": after INITIATE_CLEAR, and where a clear has already begun
@@ -149,10 +140,23 @@ abbrev pub ClearReached : Stepping → Type 0
 ClearReached does = (u : Device) (control room : ℕ) → Ready u control room
     → Reached does (does u (setup-of INITIATE-CLEAR control) .unit) control room × (isClear (u .state .split) ≡ true → Reached does u control room)
 
--- ** "The four things that survive" a clear: none of its three calls moves them
+-- so behind any one poll CHECK answers SUCCESS, whether that poll brought the owed packet or there was none
+abbrev pub ClearReachedPolled : Stepping → Type 0
+ClearReachedPolled does = (u : Device) (control room : ℕ) → Ready u control room
+    → does (does (does u (setup-of INITIATE-CLEAR control) .unit) (quiet (in-poll room)) .unit) (setup-of CHECK-CLEAR-STATUS control) .answer ≡ success
+
+-- halted or not, with CLEAR_FEATURE on 0x82, which ends that halt, and no poll
+abbrev pub ReachedByFeature : Stepping → Device → ℕ → Type 0
+ReachedByFeature does u control = does (does u (setup-of CLEAR-FEATURE-IN control) .unit) (setup-of CHECK-CLEAR-STATUS control) .answer ≡ success
+
+abbrev pub ClearReachedHalted : Stepping → Type 0
+ClearReachedHalted does = (u : Device) (control : ℕ) → Attends u control
+    → ReachedByFeature does (does u (setup-of INITIATE-CLEAR control) .unit) control × (isClear (u .state .split) ≡ true → ReachedByFeature does u control)
+
+-- ** "The four things that survive" a clear: none of its three calls moves them, on any unit, Bulk-IN halted or not
 
 abbrev pub Survive : Stepping → Type 0
-Survive does = (u : Device) (control room : ℕ) → Ready u control room
+Survive does = (u : Device) (control room : ℕ)
     → (survivors (does u (setup-of INITIATE-CLEAR control) .unit .state) ≡ survivors (u .state))
     × (survivors (does u (quiet (in-poll room)) .unit .state) ≡ survivors (u .state))
     × (survivors (does u (setup-of CHECK-CLEAR-STATUS control) .unit .state) ≡ survivors (u .state))

@@ -1,4 +1,4 @@
--- Document 01 as definitions, in its order: the parts of a unit and their rules, the calls, a run of them, and what is claimed of it.
+-- Document 01 as definitions, in its order: the parts of a unit and their rules, the calls, a run of them; then the laws, in words of their own, and the cases.
 pub mod Parts
 pub mod Remote
 pub mod Sound
@@ -10,6 +10,10 @@ pub mod Rows
 pub mod Device
 pub mod Calls
 pub mod Step
+pub mod Trace
+pub mod When
+pub mod Reply
+pub mod Halts
 pub mod Live
 pub mod Survivors
 pub mod Breaks

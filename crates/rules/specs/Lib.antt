@@ -1,3 +1,4 @@
 -- The lowest layer: how a rule is written, and the paper's tables of numbers.
 pub mod Choice
 pub mod Answers
+pub mod When

@@ -3,7 +3,7 @@
 use Prim.Native.Nat.{ℕ}
 use mathlib.Core.Path.{_≡_, refl, sym, ap, _∙_, subst}
 use mathlib.Core.Bool.{true}
-use mathlib.Core.List.{List, [], _∷_, map}
+use mathlib.Core.List.{List, [], _∷_}
 use mathlib.Core.Logic.{⊎-elim}
 use native.Mathlib.Omega.{arith}
 use Rattle.rules.specs.Answers.{DONE, Leaves as Left-as, unchanged, leaves}
@@ -18,10 +18,9 @@ use Rattle.flat.specs.Flat.{isUnit, opened, shut}
 use Rattle.flat.proofs.Again.{opened-shut}
 use Rattle.flat.proofs.Parted.{opened-stored}
 use Rattle.flat.proofs.Narrow.{fits, unit-again}
-use Rattle.flatcalls.specs.Promise.{Lent, Left, shutOf, onBytes, answerOf}
-use Rattle.flatcalls.specs.declared.types.Answer.{Answer}
+use Rattle.flatcalls.specs.Promise.{Lent, Left, shutOf, onBytes}
 use Rattle.flatcalls.proofs.Called.{on-unit, on-none, again}
-use Rattle.tewennos.specs.Run.{runBytes, afterBytes, Made, none, then}
+use Rattle.tewennos.specs.Run.{runBytes, afterBytes}
 
 -- ** one call on any bytes
 
@@ -59,7 +58,7 @@ module _ (u : List ℕ) (lent : Lent u) (c : Call) where
 
 -- ** a run from a sound unit
 
-call-again : (d : Device) → Stored d → isSound d ≡ true → (c : Call) → onBytes (shut d) c ≡ shutOf (step d c)
+pub call-again : (d : Device) → Stored d → isSound d ≡ true → (c : Call) → onBytes (shut d) c ≡ shutOf (step d c)
 call-again d stored e c = on-unit (shut d) c (unit-again d stored) ∙ ap (λ (x : Device). shutOf (step x c)) (opened-shut d (fits d stored e))
 
 run-again : (d : Device) → Stored d → isSound d ≡ true → (cs : List Call) → runBytes (shut d) cs ≡ run step d cs
@@ -76,17 +75,6 @@ after-again d stored e (c ∷ cs) =
     ap (λ (q : Left). afterBytes (q .unit) cs) (call-again d stored e c)
     ∙ after-again (step d c .unit) (keeps-stored d c stored) (keeps-sound d c e) cs
 
--- ** calls that were made
-
-made-run : (u : List ℕ) (cs : List Call) (rs : List Answer) (u′ : List ℕ) → Made u cs rs u′ → (rs ≡ map answerOf (runBytes u cs)) × (u′ ≡ afterBytes u cs)
-unfolding runBytes afterBytes
-made-run u cs rs u′ (none _) = (refl, refl)
-made-run u cs rs u′ (then _ v _ c later r rest h k) =
-    let e = made-run v later rest u′ k in (
-      λ i. h .answer i ∷ (e .0 ∙ ap (λ (w : List ℕ). map answerOf (runBytes w later)) (h .unit)) i,
-      e .1 ∙ ap (λ (w : List ℕ). afterBytes w later) (h .unit),
-    )
-
 -- ** a run from power-on
 
 module _ (setting : Setting) (cs : List Call) where
@@ -95,8 +83,3 @@ module _ (setting : Setting) (cs : List Call) where
 
   pub after-bytes : afterBytes (shut (powerOn setting .unit)) cs ≡ shut (after step (powerOn setting .unit) cs)
   after-bytes = after-again (powerOn setting .unit) (power-on-stored setting) (power-on-sound setting) cs
-
-  -- what C has seen of any calls that met their promises
-  pub made-bytes : (rs : List Answer) (u′ : List ℕ) → Made (shut (powerOn setting .unit)) cs rs u′
-      → (rs ≡ map answerOf (run step (powerOn setting .unit) cs)) × (u′ ≡ shut (after step (powerOn setting .unit) cs))
-  made-bytes rs u′ h = let e = made-run _ cs rs u′ h in (e .0 ∙ ap (map answerOf) run-bytes, e .1 ∙ after-bytes)

@@ -29,10 +29,10 @@ module _ (q : Left) (u′ : List ℕ) (r : Answer) where
   fills-unique b b′ h b″ u″ r′ k = let e = leaves-unique (h .left) u″ r′ (k .left) in (e .0, e .1, h .buffer ∙ sym (k .buffer))
 
 module _ (q : Result) (u′ : List ℕ) (r : Answer) where
-  left-step : q .answer .bytes ≡ [] → Leaves (shutOf q) u′ r → IsStep q u′ r
+  pub left-step : q .answer .bytes ≡ [] → Leaves (shutOf q) u′ r → IsStep q u′ r
   left-step z h = record { unit = h .unit; verdict = ap (λ (a : Answer). a .verdict) (h .answer); bytes = z; len = ap (λ (a : Answer). a .len) (h .answer) ∙ ap length z }
 
-  filled-step : (b b′ : List ℕ) → Fills (shutOf q) b b′ u′ r → IsStepInto q b b′ u′ r
+  pub filled-step : (b b′ : List ℕ) → Fills (shutOf q) b b′ u′ r → IsStepInto q b b′ u′ r
   filled-step b b′ h =
       let bytes = q .answer .bytes in
       let e : length bytes ≡ r .len = sym (ap (λ (a : Answer). a .len) (h .left .answer)) in

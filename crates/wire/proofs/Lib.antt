@@ -3,3 +3,4 @@ pub mod Bytes
 pub mod Fronts
 pub mod Lawful
 pub mod SetupLaws
+pub mod When

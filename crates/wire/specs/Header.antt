@@ -70,23 +70,23 @@ ON = 1
 
 -- ** on Bulk-OUT
 
--- "reserved byte or bit not 0; TransferSize 0": "attributes with only D0 = EOM, three 0"
+-- "reserved byte .. not 0; TransferSize 0 for MsgID 1 or 2", and then what is reserved by MsgID
+abbrev pub sizedRules : List ℕ → List (Bool × ℕ) → List (Bool × ℕ)
+sizedRules s more = byte s 3 ≠ᵇ 0 ⇒ RESERVED ∣ TransferSize s =ᵇ 0 ⇒ RESERVED ∣ more
+
+-- "attributes with only D0 = EOM, three 0"
 abbrev pub messageRules : List ℕ → List (Bool × ℕ)
 messageRules s =
-    byte s 3 ≠ᵇ 0 ⇒ RESERVED ∣
-    TransferSize s =ᵇ 0 ⇒ RESERVED ∣
-    D0 <ᵇ attributes s ⇒ RESERVED ∣
-    no (zeros s 9 HEADER) ⇒ RESERVED ∣ []
+    sizedRules s
+    (D0 <ᵇ attributes s ⇒ RESERVED ∣
+    no (zeros s 9 HEADER) ⇒ RESERVED ∣ [])
 
 unfoldable pub readMessage : List ℕ → Read
 readMessage s = decide Fault (messageRules s) (Good (Message (bTag s) (TransferSize s) (attributes s)))
 
 -- "attributes with only D1 = TermCharEnabled, TermChar (ignored unless enabled), two 0"
 abbrev pub requestRules : List ℕ → List (Bool × ℕ)
-requestRules s =
-    byte s 3 ≠ᵇ 0 ⇒ RESERVED ∣
-    TransferSize s =ᵇ 0 ⇒ RESERVED ∣
-    no (attributes s =ᵇ 0 or attributes s =ᵇ D1) ⇒ RESERVED ∣ []
+requestRules s = sizedRules s (no (attributes s =ᵇ 0 or attributes s =ᵇ D1) ⇒ RESERVED ∣ [])
 
 abbrev pub spareRules : List ℕ → List (Bool × ℕ)
 spareRules s = no (zeros s 10 HEADER) ⇒ RESERVED ∣ []

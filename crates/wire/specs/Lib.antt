@@ -2,3 +2,4 @@
 pub mod Bytes
 pub mod Header
 pub mod Setup
+pub mod When

@@ -1,0 +1,1 @@
+// What a caller has seen of its calls: definitions and proofs alone.
