@@ -67,7 +67,7 @@ impl Traffic {
             Ok(Some(call)) => {
                 let before = self.player.unit.clone();
                 let outcome = self.player.play(&call);
-                debug_assert!(self.player.unit.sound(), "{:?} after {line}", self.player.unit);
+                assert!(self.player.unit.sound(), "{:?} after {line}", self.player.unit);
                 self.coverage.observe(&before, &call, &outcome, &self.player.unit);
                 (Some(outcome.line()), Some(outcome.number))
             }
