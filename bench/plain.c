@@ -1,4 +1,4 @@
-/* The port's rules, in document 01's order. */
+/* The port's rules, in document 01's order, with Interrupt-IN behind Bulk-IN. */
 #include "plain.h"
 
 #include <stdbool.h>
@@ -6,10 +6,17 @@
 
 #define BULK_OUT 0x01
 #define BULK_IN 0x82
+#define INTERRUPT_IN 0x83
+
+/* The first byte of an Interrupt-IN packet: a service request's, or with a tag that of a READ_STATUS_BYTE. */
+#define NOTIFY_SERVICE 0x81
+#define NOTIFY_STATUS 0x80
+#define ASKS_SERVICE 0x40 /* bit 6 of a status byte */
 
 /* Statuses of the class requests. */
 #define SUCCESS 0x01
 #define PENDING 0x02
+#define INTERRUPT_IN_BUSY 0x20
 #define FAILED 0x80
 #define TRANSFER_NOT_IN_PROGRESS 0x81
 #define SPLIT_NOT_IN_PROGRESS 0x82
@@ -85,6 +92,17 @@ static bool in_sound(const struct plain_unit *u)
     }
 }
 
+static bool interrupt_sound(const struct plain_unit *u)
+{
+    if (u->interrupt_halted > 1)
+        return false;
+    if (u->notify1 == 0)
+        return u->notify2 == 0 && !(u->status & ASKS_SERVICE);
+    if (u->notify1 == NOTIFY_SERVICE)
+        return u->notify2 & ASKS_SERVICE;
+    return u->notify1 > NOTIFY_SERVICE && !(u->notify2 & ASKS_SERVICE);
+}
+
 static bool split_sound(const struct plain_unit *u)
 {
     switch (u->split) {
@@ -106,7 +124,7 @@ static bool split_sound(const struct plain_unit *u)
 static bool sound(const struct plain_unit *u)
 {
     return (u->packet_size == 64 || u->packet_size == 512) && u->configured <= 1 && u->ren <= 1 &&
-           u->remote <= PLAIN_RWLS && out_sound(u) && in_sound(u) && split_sound(u);
+           u->remote <= PLAIN_RWLS && out_sound(u) && in_sound(u) && interrupt_sound(u) && split_sound(u);
 }
 
 /* What several calls do. */
@@ -404,6 +422,38 @@ struct plain_answer plain_poll(struct plain_unit *u, uint8_t *buffer, size_t roo
     return done(length);
 }
 
+/* Interrupt-IN. */
+
+/* With no packet waiting: a service request becomes one, and bit 6 goes. */
+static void queue_service(struct plain_unit *u)
+{
+    if (!(u->status & ASKS_SERVICE))
+        return;
+    u->notify1 = NOTIFY_SERVICE;
+    u->notify2 = u->status;
+    u->status &= (uint8_t)~ASKS_SERVICE;
+}
+
+struct plain_answer plain_interrupt_poll(struct plain_unit *u, uint8_t *buffer, size_t room)
+{
+    if (!sound(u))
+        return refused(PLAIN_UNSOUND);
+    if (!u->configured)
+        return refused(PLAIN_NOT_CONFIGURED);
+    if (room < PLAIN_NOTIFY)
+        return refused(PLAIN_WRONG_SIZE);
+    if (u->interrupt_halted)
+        return refused(PLAIN_HALTED);
+    if (u->notify1 == 0)
+        return refused(PLAIN_WAIT);
+    buffer[0] = u->notify1;
+    buffer[1] = u->notify2;
+    u->notify1 = 0;
+    u->notify2 = 0;
+    queue_service(u);
+    return done(PLAIN_NOTIFY);
+}
+
 /* The thermostat's calls. */
 
 struct plain_answer plain_take(struct plain_unit *u, uint8_t *buffer, size_t room)
@@ -447,6 +497,8 @@ uint8_t plain_set_status(struct plain_unit *u, uint8_t status)
     if (!u->configured)
         return PLAIN_NOT_CONFIGURED;
     u->status = status;
+    if (u->notify1 == 0)
+        queue_service(u);
     return PLAIN_DONE;
 }
 
@@ -572,14 +624,35 @@ static struct plain_answer initiate_clear(struct plain_unit *u, uint8_t *buffer)
 static struct plain_answer capabilities(uint8_t *buffer)
 {
     static const uint8_t text[PLAIN_CONTROL_BUFFER] = {0x01, 0, 0, 0x01, 0x04, 0x01, 0,    0,
-                                                       0,    0, 0, 0,    0,    0x01, 0x03, 0x03};
+                                                       0,    0, 0, 0,    0,    0x01, 0x03, 0x07};
 
     memcpy(buffer, text, sizeof text);
     return done(sizeof text);
 }
 
+static struct plain_answer read_status_byte(struct plain_unit *u, uint8_t tag, uint8_t *buffer)
+{
+    buffer[0] = u->notify1 == 0 ? SUCCESS : INTERRUPT_IN_BUSY;
+    buffer[1] = tag;
+    buffer[2] = 0;
+    if (u->notify1 == 0) {
+        u->notify1 = NOTIFY_STATUS | tag;
+        u->notify2 = u->status;
+    }
+    return done(3);
+}
+
+static bool is_endpoint(uint16_t index)
+{
+    return index == BULK_OUT || index == BULK_IN || index == INTERRUPT_IN;
+}
+
 static void clear_halt(struct plain_unit *u, uint16_t endpoint)
 {
+    if (endpoint == INTERRUPT_IN) {
+        u->interrupt_halted = 0;
+        return;
+    }
     if (endpoint == BULK_OUT) {
         drop_unfinished(u);
         if (u->split != PLAIN_CLEAR && u->split != PLAIN_ABORT_OUT)
@@ -596,8 +669,10 @@ static void set_halt(struct plain_unit *u, uint16_t endpoint)
 {
     if (endpoint == BULK_OUT)
         halt_out(u);
-    else
+    else if (endpoint == BULK_IN)
         u->in_halted = 1;
+    else
+        u->interrupt_halted = 1;
 }
 
 static void local_lockout(struct plain_unit *u)
@@ -648,10 +723,7 @@ static struct plain_answer interface_request(struct plain_unit *u, const struct 
     case 128: /* READ_STATUS_BYTE */
         if (r->value < 2 || r->value > 127 || r->length != 3)
             return no_row();
-        buffer[0] = SUCCESS;
-        buffer[1] = (uint8_t)r->value;
-        buffer[2] = u->status & 0xBF;
-        return done(3);
+        return read_status_byte(u, (uint8_t)r->value, buffer);
     case 160: /* REN_CONTROL */
         if (r->value > 1 || r->length != 1)
             return no_row();
@@ -701,7 +773,7 @@ static struct plain_answer endpoint_request(struct plain_unit *u, const struct r
 /* CLEAR_FEATURE and SET_FEATURE, of an endpoint's halt. */
 static struct plain_answer feature_request(struct plain_unit *u, const struct request *r)
 {
-    if (r->value != 0 || (r->index != BULK_OUT && r->index != BULK_IN) || r->length != 0)
+    if (r->value != 0 || !is_endpoint(r->index) || r->length != 0)
         return no_row();
     switch (r->number) {
     case 1:
@@ -717,9 +789,9 @@ static struct plain_answer feature_request(struct plain_unit *u, const struct re
 
 static struct plain_answer get_status(const struct plain_unit *u, const struct request *r, uint8_t *buffer)
 {
-    if (r->number != 0 || r->value != 0 || (r->index != BULK_OUT && r->index != BULK_IN) || r->length != 2)
+    if (r->number != 0 || r->value != 0 || !is_endpoint(r->index) || r->length != 2)
         return no_row();
-    buffer[0] = r->index == BULK_OUT ? u->out_halted : u->in_halted;
+    buffer[0] = r->index == BULK_OUT ? u->out_halted : r->index == BULK_IN ? u->in_halted : u->interrupt_halted;
     buffer[1] = 0;
     return done(2);
 }

@@ -1,4 +1,4 @@
-/* A USBTMC device port by the rules of document 01, written by hand: the yardstick for the proved one. */
+/* A USBTMC device port by the rules of document 01 and request 1 of document 02, written by hand: the yardstick for the proved one. */
 #ifndef PLAIN_H
 #define PLAIN_H
 
@@ -8,6 +8,7 @@
 #define PLAIN_STORE 1024u
 #define PLAIN_HEADER 12u
 #define PLAIN_CONTROL_BUFFER 24u
+#define PLAIN_NOTIFY 2u /* bytes of an Interrupt-IN packet */
 
 /* The numbers that a call is answered with. */
 enum plain_number {
@@ -48,7 +49,6 @@ struct plain_unit {
     uint8_t remote;
     uint8_t configured;
     uint8_t ren;
-    uint8_t status;
 
     uint8_t out_halted;
     uint8_t out_ready; /* the message held is whole */
@@ -69,6 +69,11 @@ struct plain_unit {
     uint16_t in_sent;  /* and those that went */
     uint16_t reply_at; /* the first byte that has not gone */
     uint16_t reply_left;
+
+    uint8_t status;  /* bit 6 on: a service request is kept, until the packet that waits is polled */
+    uint8_t notify1; /* of the Interrupt-IN packet that waits: 0 where there is none */
+    uint8_t notify2;
+    uint8_t interrupt_halted;
 };
 
 /* length: the bytes written to the lent buffer; those past them stay as they were. */
@@ -84,6 +89,7 @@ struct plain_answer plain_setup(struct plain_unit *u, const uint8_t *packet, siz
                                 uint8_t *buffer, size_t room);
 struct plain_answer plain_packet(struct plain_unit *u, const uint8_t *packet, size_t length);
 struct plain_answer plain_poll(struct plain_unit *u, uint8_t *buffer, size_t room);
+struct plain_answer plain_interrupt_poll(struct plain_unit *u, uint8_t *buffer, size_t room);
 
 struct plain_answer plain_take(struct plain_unit *u, uint8_t *buffer, size_t room);
 uint8_t plain_offer(struct plain_unit *u, const uint8_t *reply, size_t length);

@@ -118,6 +118,19 @@ static void put_state(struct player *p)
     put(p, text);
 }
 
+static void put_more(struct player *p)
+{
+    const struct plain_unit *u = &p->unit;
+    char waiting[8] = "none";
+    char text[64];
+
+    if (u->notify1 != 0)
+        snprintf(waiting, sizeof waiting, "%02x%02x", u->notify1, u->notify2);
+    snprintf(text, sizeof text, "0 p=%u int=%s int-endpoint=%s\n", u->packet_size, waiting,
+             u->interrupt_halted ? "halted" : "running");
+    put(p, text);
+}
+
 static bool is(struct word word, const char *text)
 {
     return word.length == strlen(text) && memcmp(word.text, text, word.length) == 0;
@@ -259,8 +272,8 @@ static const struct {
     const char *name;
     size_t least, most;
 } calls[] = {
-    {"power", 1, 1}, {"setup", 1, 2}, {"out", 1, 1},   {"in", 0, 1},      {"take", 0, 1},  {"offer", 1, 1},
-    {"status", 1, 1}, {"local", 0, 0}, {"reset", 0, 0}, {"suspend", 0, 0}, {"state", 0, 0},
+    {"power", 1, 1},  {"setup", 1, 2}, {"out", 1, 1},   {"in", 0, 1},      {"in3", 0, 1},   {"take", 0, 1}, {"offer", 1, 1},
+    {"status", 1, 1}, {"local", 0, 0}, {"reset", 0, 0}, {"suspend", 0, 0}, {"state", 0, 0}, {"more", 0, 0},
 };
 
 static void answer_line(struct player *p)
@@ -290,6 +303,8 @@ static void answer_line(struct player *p)
         call_setup(p, words[1], words[2]);
     else if (is(words[0], "in"))
         call_lent(p, plain_poll, words[1], p->unit.packet_size);
+    else if (is(words[0], "in3"))
+        call_lent(p, plain_interrupt_poll, words[1], PLAIN_NOTIFY);
     else if (is(words[0], "take"))
         call_lent(p, plain_take, words[1], PLAIN_STORE);
     else if (is(words[0], "local"))
@@ -300,6 +315,8 @@ static void answer_line(struct player *p)
         put_number(p, plain_suspend(&p->unit));
     else if (is(words[0], "state"))
         put_state(p);
+    else if (is(words[0], "more"))
+        put_more(p);
     else
         call_with_bytes(p, words[0], words[1]);
 }

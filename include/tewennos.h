@@ -19,9 +19,10 @@
 extern "C" {
 #endif
 
-#define TMC_STORE 1024u        /* bytes that a message, and a reply, can have */
-#define TMC_CONTROL_BUFFER 24u /* bytes that a setup packet's answer may need */
-#define TMC_FULL_SPEED 64u     /* the packet sizes */
+#define TMC_STORE 1024u         /* bytes that a message, and a reply, can have */
+#define TMC_CONTROL_BUFFER 24u  /* bytes that a setup packet's answer may need */
+#define TMC_INTERRUPT_BUFFER 2u /* bytes of a packet of Interrupt-IN */
+#define TMC_FULL_SPEED 64u      /* the packet sizes */
 #define TMC_HIGH_SPEED 512u
 
 /* The numbers that a call is answered with: document 01's table. 6 to 14 halt Bulk-OUT. The others but 0 leave all as it was, and write
@@ -50,6 +51,7 @@ enum tmc_number {
 enum tmc_status {
     TMC_STATUS_SUCCESS = 0x01,
     TMC_STATUS_PENDING = 0x02,
+    TMC_STATUS_INTERRUPT_IN_BUSY = 0x20, /* of READ_STATUS_BYTE alone: a packet of Interrupt-IN waits already */
     TMC_STATUS_FAILED = 0x80,
     TMC_STATUS_TRANSFER_NOT_IN_PROGRESS = 0x81,
     TMC_STATUS_SPLIT_NOT_IN_PROGRESS = 0x82,
@@ -80,8 +82,6 @@ struct tmc_unit {
     uint16_t packet; /* 64 or 512 */
     uint8_t configured;
     uint8_t ren;
-    uint8_t status;
-    uint8_t remote; /* enum tmc_remote */
 
     /* Bulk-OUT: the message, and the transfer that brings it. */
     uint16_t out_held; /* data bytes of the message */
@@ -105,9 +105,16 @@ struct tmc_unit {
     uint8_t in_halted;
     uint8_t in_recent; /* the most recent tag */
 
+    /* Interrupt-IN: the status byte, and the packet that waits to tell of it. */
+    uint8_t status;  /* bit 6 is on only while a packet waits, and is then a service request that is kept */
+    uint8_t notify1; /* 0: no packet waits. 0x81: a service request. Above: 0x80 and the tag of a READ_STATUS_BYTE */
+    uint8_t notify2; /* the status byte in the packet */
+    uint8_t interrupt_halted;
+
     uint16_t count; /* of an abort: the data bytes of its transfer */
     uint8_t split;  /* enum tmc_split */
-    uint8_t zero;
+
+    uint8_t remote; /* enum tmc_remote */
 };
 
 /* Power-on, for packets of 64 or 512 bytes. Any other size is answered 3, with a unit for 64. What the unit held does not matter. */
@@ -125,13 +132,18 @@ struct tmc_answer tmc_bulk_out(struct tmc_unit *unit, const uint8_t *packet, siz
    `room` is at least P. */
 struct tmc_answer tmc_bulk_in(struct tmc_unit *unit, uint8_t *buffer, size_t room);
 
+/* A poll of Interrupt-IN. 0: send the two bytes of `buffer`; the packet has left the unit. 5: answer NAK. 4: stall. `room` is at least 2. */
+struct tmc_answer tmc_interrupt_in(struct tmc_unit *unit, uint8_t *buffer, size_t room);
+
 /* Takes the message, where one is ready: 0, and `length` bytes. 16: there is none. 3: `room` is too small for it; it stays. */
 struct tmc_answer tmc_take(struct tmc_unit *unit, uint8_t *buffer, size_t room);
 
 /* Offers a reply of 1 to 1,024 bytes, which the host's next requests fetch. 16: one is stored, or a clear is in progress. */
 struct tmc_answer tmc_offer(struct tmc_unit *unit, const uint8_t *reply, size_t n);
 
-/* The status byte that READ_STATUS_BYTE shows. */
+/* The status byte. Bit 6 on asks the host for service: where no packet of Interrupt-IN waits, 0x81 and the byte are queued, and bit 6 of the
+   byte that is held is cleared. While one waits the byte is held as it is; if its bit 6 is still on when that packet is polled, it is queued
+   and bit 6 cleared then. Without bit 6 nothing is sent; READ_STATUS_BYTE reads the byte that is held. */
 struct tmc_answer tmc_set_status(struct tmc_unit *unit, uint8_t status);
 
 /* The front panel asks for local control. */
@@ -158,30 +170,32 @@ TMC_HOLDS(offsetof(struct tmc_unit, reply) == 1024);
 TMC_HOLDS(offsetof(struct tmc_unit, packet) == 2048);
 TMC_HOLDS(offsetof(struct tmc_unit, configured) == 2050);
 TMC_HOLDS(offsetof(struct tmc_unit, ren) == 2051);
-TMC_HOLDS(offsetof(struct tmc_unit, status) == 2052);
-TMC_HOLDS(offsetof(struct tmc_unit, remote) == 2053);
-TMC_HOLDS(offsetof(struct tmc_unit, out_held) == 2054);
-TMC_HOLDS(offsetof(struct tmc_unit, out_ready) == 2056);
-TMC_HOLDS(offsetof(struct tmc_unit, out_halted) == 2057);
-TMC_HOLDS(offsetof(struct tmc_unit, out_left) == 2058);
-TMC_HOLDS(offsetof(struct tmc_unit, out_got) == 2060);
-TMC_HOLDS(offsetof(struct tmc_unit, out_end) == 2062);
-TMC_HOLDS(offsetof(struct tmc_unit, out_recent) == 2063);
-TMC_HOLDS(offsetof(struct tmc_unit, in_at) == 2064);
-TMC_HOLDS(offsetof(struct tmc_unit, in_unsent) == 2066);
-TMC_HOLDS(offsetof(struct tmc_unit, in_asked) == 2068);
-TMC_HOLDS(offsetof(struct tmc_unit, in_left) == 2070);
-TMC_HOLDS(offsetof(struct tmc_unit, in_sent) == 2072);
-TMC_HOLDS(offsetof(struct tmc_unit, in_phase) == 2074);
-TMC_HOLDS(offsetof(struct tmc_unit, in_tag) == 2075);
-TMC_HOLDS(offsetof(struct tmc_unit, in_enabled) == 2076);
-TMC_HOLDS(offsetof(struct tmc_unit, in_term) == 2077);
-TMC_HOLDS(offsetof(struct tmc_unit, in_halted) == 2078);
-TMC_HOLDS(offsetof(struct tmc_unit, in_recent) == 2079);
-TMC_HOLDS(offsetof(struct tmc_unit, count) == 2080);
-TMC_HOLDS(offsetof(struct tmc_unit, split) == 2082);
-TMC_HOLDS(offsetof(struct tmc_unit, zero) == 2083);
-TMC_HOLDS(sizeof(struct tmc_unit) == 2084);
+TMC_HOLDS(offsetof(struct tmc_unit, out_held) == 2052);
+TMC_HOLDS(offsetof(struct tmc_unit, out_ready) == 2054);
+TMC_HOLDS(offsetof(struct tmc_unit, out_halted) == 2055);
+TMC_HOLDS(offsetof(struct tmc_unit, out_left) == 2056);
+TMC_HOLDS(offsetof(struct tmc_unit, out_got) == 2058);
+TMC_HOLDS(offsetof(struct tmc_unit, out_end) == 2060);
+TMC_HOLDS(offsetof(struct tmc_unit, out_recent) == 2061);
+TMC_HOLDS(offsetof(struct tmc_unit, in_at) == 2062);
+TMC_HOLDS(offsetof(struct tmc_unit, in_unsent) == 2064);
+TMC_HOLDS(offsetof(struct tmc_unit, in_asked) == 2066);
+TMC_HOLDS(offsetof(struct tmc_unit, in_left) == 2068);
+TMC_HOLDS(offsetof(struct tmc_unit, in_sent) == 2070);
+TMC_HOLDS(offsetof(struct tmc_unit, in_phase) == 2072);
+TMC_HOLDS(offsetof(struct tmc_unit, in_tag) == 2073);
+TMC_HOLDS(offsetof(struct tmc_unit, in_enabled) == 2074);
+TMC_HOLDS(offsetof(struct tmc_unit, in_term) == 2075);
+TMC_HOLDS(offsetof(struct tmc_unit, in_halted) == 2076);
+TMC_HOLDS(offsetof(struct tmc_unit, in_recent) == 2077);
+TMC_HOLDS(offsetof(struct tmc_unit, status) == 2078);
+TMC_HOLDS(offsetof(struct tmc_unit, notify1) == 2079);
+TMC_HOLDS(offsetof(struct tmc_unit, notify2) == 2080);
+TMC_HOLDS(offsetof(struct tmc_unit, interrupt_halted) == 2081);
+TMC_HOLDS(offsetof(struct tmc_unit, count) == 2082);
+TMC_HOLDS(offsetof(struct tmc_unit, split) == 2084);
+TMC_HOLDS(offsetof(struct tmc_unit, remote) == 2085);
+TMC_HOLDS(sizeof(struct tmc_unit) == 2086);
 TMC_HOLDS(offsetof(struct tmc_answer, number) == 0);
 TMC_HOLDS(offsetof(struct tmc_answer, tells) == 1);
 TMC_HOLDS(offsetof(struct tmc_answer, length) == sizeof(size_t));

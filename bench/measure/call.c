@@ -4,6 +4,7 @@
 
 #define HEADER 12
 #define CONTROL_BUFFER 24
+#define NOTIFY 2
 
 enum message_id { DEV_DEP_MSG_OUT = 1, REQUEST_DEV_DEP_MSG_IN = 2, TRIGGER = 128 };
 
@@ -44,6 +45,14 @@ struct call poll(size_t room)
     struct call call = bare(BULK_IN);
 
     call.room = room;
+    return call;
+}
+
+struct call interrupt_poll(void)
+{
+    struct call call = bare(INTERRUPT_IN);
+
+    call.room = NOTIFY;
     return call;
 }
 

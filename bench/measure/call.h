@@ -8,7 +8,7 @@
 
 #define LARGEST_LENT 1024
 
-enum call_kind { POWER_ON, SETUP, BULK_OUT, BULK_IN, TAKE, OFFER, SET_STATUS, PANEL, BUS_RESET, SUSPEND, KINDS };
+enum call_kind { POWER_ON, SETUP, BULK_OUT, BULK_IN, INTERRUPT_IN, TAKE, OFFER, SET_STATUS, PANEL, BUS_RESET, SUSPEND, KINDS };
 
 struct call {
     enum call_kind kind;
@@ -25,6 +25,7 @@ struct call power_on(uint16_t packet_size);
 struct call set_status(uint8_t status);
 struct call take(size_t room);
 struct call poll(size_t room);
+struct call interrupt_poll(void);
 struct call setup(uint8_t type, uint8_t request, uint16_t value, uint16_t index, uint16_t length);
 
 /* A reply of letters. With a line end in it, that is the byte of that index. */

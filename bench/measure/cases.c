@@ -8,6 +8,11 @@
 #define LONGEST 1024
 #define OUT_ENDPOINT 0x01
 #define IN_ENDPOINT 0x82
+#define INTERRUPT_ENDPOINT 0x83
+
+/* Status bytes, with bit 6 off and on. */
+#define STATUS 0x11
+#define STATUS_ASKING 0x51
 
 /* bmRequestType. */
 #define TO_DEVICE 0x00
@@ -61,6 +66,11 @@ static struct call ren_on(void)
     return setup(CLASS_INTERFACE, 160, 1, 0, 1);
 }
 
+static struct call read_status(void)
+{
+    return setup(CLASS_INTERFACE, 128, 2, 0, 3);
+}
+
 static struct call halt(uint16_t endpoint)
 {
     return setup(TO_ENDPOINT, 3, 0, endpoint, 0);
@@ -107,6 +117,12 @@ static void begin_reply(struct pair *pair, size_t reply)
 {
     ask_for_reply(pair, reply);
     do_call(pair, next_poll(pair));
+}
+
+static void ask_for_service(struct pair *pair)
+{
+    configure(pair);
+    do_call(pair, set_status(STATUS_ASKING));
 }
 
 static void go_remote(struct pair *pair)
@@ -250,6 +266,34 @@ static struct call in_halted(struct pair *pair)
     return next_poll(pair);
 }
 
+/* Interrupt-IN. */
+
+static struct call interrupt_service(struct pair *pair)
+{
+    ask_for_service(pair);
+    return interrupt_poll();
+}
+
+static struct call interrupt_kept(struct pair *pair)
+{
+    ask_for_service(pair);
+    do_call(pair, set_status(STATUS_ASKING));
+    return interrupt_poll();
+}
+
+static struct call interrupt_wait(struct pair *pair)
+{
+    configure(pair);
+    return interrupt_poll();
+}
+
+static struct call interrupt_halted(struct pair *pair)
+{
+    ask_for_service(pair);
+    do_call(pair, halt(INTERRUPT_ENDPOINT));
+    return interrupt_poll();
+}
+
 /* Setup. */
 
 static struct call get_status(struct pair *pair)
@@ -306,8 +350,14 @@ static struct call clear_halt(struct pair *pair)
 static struct call read_status_byte(struct pair *pair)
 {
     configure(pair);
-    do_call(pair, set_status(0x51));
-    return setup(CLASS_INTERFACE, 128, 2, 0, 3);
+    do_call(pair, set_status(STATUS));
+    return read_status();
+}
+
+static struct call read_status_busy(struct pair *pair)
+{
+    ask_for_service(pair);
+    return read_status();
 }
 
 static struct call local_lockout(struct pair *pair)
@@ -364,7 +414,13 @@ static struct call offer_longest(struct pair *pair)
 static struct call status_byte(struct pair *pair)
 {
     configure(pair);
-    return set_status(0x51);
+    return set_status(STATUS);
+}
+
+static struct call status_asking(struct pair *pair)
+{
+    configure(pair);
+    return set_status(STATUS_ASKING);
 }
 
 static struct call panel(struct pair *pair)
@@ -392,6 +448,7 @@ static struct call powered_on(struct pair *pair)
 
 #define OUT "Bulk-OUT packet"
 #define IN "Bulk-IN poll"
+#define INTERRUPT "Interrupt-IN poll"
 #define CONTROL "Setup packet"
 #define OTHERS "Instrument and bus"
 
@@ -418,6 +475,11 @@ const struct measured_case cases[] = {
     {IN, "in-wait", "nothing to send", TMC_NUMBER_WAIT, false, in_wait},
     {IN, "in-halted", "halted", TMC_NUMBER_HALTED, false, in_halted},
 
+    {INTERRUPT, "interrupt-service", "a service request", TMC_NUMBER_DONE, false, interrupt_service},
+    {INTERRUPT, "interrupt-kept", "a service request, and a kept one is queued", TMC_NUMBER_DONE, false, interrupt_kept},
+    {INTERRUPT, "interrupt-wait", "no packet waits", TMC_NUMBER_WAIT, false, interrupt_wait},
+    {INTERRUPT, "interrupt-halted", "halted", TMC_NUMBER_HALTED, false, interrupt_halted},
+
     {CONTROL, "get-status", "GET_STATUS of an endpoint", TMC_NUMBER_DONE, false, get_status},
     {CONTROL, "get-capabilities", "GET_CAPABILITIES", TMC_NUMBER_DONE, false, get_capabilities},
     {CONTROL, "abort-out", "INITIATE_ABORT_BULK_OUT", TMC_NUMBER_DONE, false, abort_out},
@@ -427,6 +489,7 @@ const struct measured_case cases[] = {
     {CONTROL, "check-clear", "CHECK_CLEAR_STATUS", TMC_NUMBER_DONE, false, check_clear},
     {CONTROL, "clear-halt", "CLEAR_FEATURE of a halt", TMC_NUMBER_DONE, false, clear_halt},
     {CONTROL, "read-status-byte", "READ_STATUS_BYTE", TMC_NUMBER_DONE, false, read_status_byte},
+    {CONTROL, "read-status-busy", "READ_STATUS_BYTE, a packet waits", TMC_NUMBER_DONE, false, read_status_busy},
     {CONTROL, "local-lockout", "LOCAL_LOCKOUT", TMC_NUMBER_DONE, false, local_lockout},
     {CONTROL, "set-configuration", "SET_CONFIGURATION", TMC_NUMBER_DONE, false, configuration},
     {CONTROL, "no-row", "a packet with no row", TMC_NUMBER_NO_ROW, false, no_row},
@@ -437,6 +500,7 @@ const struct measured_case cases[] = {
     {OTHERS, "offer-20", "offer, 20 bytes", TMC_NUMBER_DONE, false, offer_short},
     {OTHERS, "offer-1024", "offer, 1,024 bytes", TMC_NUMBER_DONE, false, offer_longest},
     {OTHERS, "set-status", "set status", TMC_NUMBER_DONE, false, status_byte},
+    {OTHERS, "set-status-asking", "set status, bit 6 on", TMC_NUMBER_DONE, false, status_asking},
     {OTHERS, "panel", "panel", TMC_NUMBER_DONE, false, panel},
     {OTHERS, "suspend", "suspend", TMC_NUMBER_DONE, false, suspend},
     {OTHERS, "bus-reset", "bus reset", TMC_NUMBER_DONE, false, bus_reset},

@@ -5,6 +5,7 @@ BEGIN {
     tenth = 1.1
     add("out", 1.35, "accepted OUT packets with data, P = 64, and short ones")
     add("in", 1.35, "sent IN packets, P = 64, whole and empty ones too")
+    add("interrupt", 1.35, "Interrupt-IN polls that bring a packet")
     add("request", 1.80, "REQUEST and TRIGGER")
     add("refused", 1.5, "refused packets and polls")
     add("messages", 1.5, "take and offer")
@@ -24,9 +25,10 @@ function add(class, most, what) {
 function class_of(i) {
     if (group[i] ~ /^Setup/) return "setup"
     if (name[i] ~ /^(take|offer)-/) return "messages"
-    if (name[i] ~ /^(set-status|panel|suspend)$/) return "small"
-    if (group[i] !~ /^Bulk/) return ""
+    if (name[i] ~ /^(set-status(-asking)?|panel|suspend)$/) return "small"
+    if (group[i] !~ /^(Bulk|Interrupt)/) return ""
     if (answer[i] != 0) return "refused"
+    if (group[i] ~ /^Interrupt/) return "interrupt"
     if (name[i] ~ /^out-(request|trigger)$/) return "request"
     if (packet[i] == 512) return "large"
     return group[i] ~ /OUT/ ? "out" : "in"
@@ -84,7 +86,7 @@ END {
     print "| Limit | At most | Found | |"
     print "|---|--:|--:|---|"
     for (i = 1; i <= class_count; i++) write_ratio(classes[i])
-    write_stack("stack of a packet or a poll", 256, "^Bulk", "^tmc_bulk_")
+    write_stack("stack of a packet or a poll", 256, "^(Bulk|Interrupt)", "^tmc_(bulk|interrupt)_")
     write_stack("stack of any call", 400, "", "")
     write_bytes("code", 15000, code["port"])
     write_bytes("the unit", 2144, unit["port"])

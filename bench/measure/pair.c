@@ -16,19 +16,21 @@ struct outcome {
 };
 
 static const uintptr_t port_function[KINDS] = {
-    [POWER_ON] = (uintptr_t)tmc_power_on,     [SETUP] = (uintptr_t)tmc_setup,
-    [BULK_OUT] = (uintptr_t)tmc_bulk_out,     [BULK_IN] = (uintptr_t)tmc_bulk_in,
-    [TAKE] = (uintptr_t)tmc_take,             [OFFER] = (uintptr_t)tmc_offer,
-    [SET_STATUS] = (uintptr_t)tmc_set_status, [PANEL] = (uintptr_t)tmc_panel,
-    [BUS_RESET] = (uintptr_t)tmc_bus_reset,   [SUSPEND] = (uintptr_t)tmc_suspend,
+    [POWER_ON] = (uintptr_t)tmc_power_on,         [SETUP] = (uintptr_t)tmc_setup,
+    [BULK_OUT] = (uintptr_t)tmc_bulk_out,         [BULK_IN] = (uintptr_t)tmc_bulk_in,
+    [INTERRUPT_IN] = (uintptr_t)tmc_interrupt_in, [TAKE] = (uintptr_t)tmc_take,
+    [OFFER] = (uintptr_t)tmc_offer,               [SET_STATUS] = (uintptr_t)tmc_set_status,
+    [PANEL] = (uintptr_t)tmc_panel,               [BUS_RESET] = (uintptr_t)tmc_bus_reset,
+    [SUSPEND] = (uintptr_t)tmc_suspend,
 };
 
 static const uintptr_t plain_function[KINDS] = {
-    [POWER_ON] = (uintptr_t)plain_power_on,     [SETUP] = (uintptr_t)plain_setup,
-    [BULK_OUT] = (uintptr_t)plain_packet,       [BULK_IN] = (uintptr_t)plain_poll,
-    [TAKE] = (uintptr_t)plain_take,             [OFFER] = (uintptr_t)plain_offer,
-    [SET_STATUS] = (uintptr_t)plain_set_status, [PANEL] = (uintptr_t)plain_return_to_local,
-    [BUS_RESET] = (uintptr_t)plain_bus_reset,   [SUSPEND] = (uintptr_t)plain_suspend,
+    [POWER_ON] = (uintptr_t)plain_power_on,           [SETUP] = (uintptr_t)plain_setup,
+    [BULK_OUT] = (uintptr_t)plain_packet,             [BULK_IN] = (uintptr_t)plain_poll,
+    [INTERRUPT_IN] = (uintptr_t)plain_interrupt_poll, [TAKE] = (uintptr_t)plain_take,
+    [OFFER] = (uintptr_t)plain_offer,                 [SET_STATUS] = (uintptr_t)plain_set_status,
+    [PANEL] = (uintptr_t)plain_return_to_local,       [BUS_RESET] = (uintptr_t)plain_bus_reset,
+    [SUSPEND] = (uintptr_t)plain_suspend,
 };
 
 /* The two sides take the same arguments. */
@@ -54,6 +56,7 @@ static struct invocation invocation_of(const struct call *call, uintptr_t functi
         argument[1] = call->length;
         break;
     case BULK_IN:
+    case INTERRUPT_IN:
     case TAKE:
         argument[0] = (uintptr_t)lent;
         argument[1] = call->room;
@@ -80,7 +83,7 @@ static struct cost call_port(struct pair *pair, const struct call *call, struct 
 /* Some calls of the plain side give a number only. */
 static bool gives_number_only(enum call_kind kind)
 {
-    return kind != SETUP && kind != BULK_OUT && kind != BULK_IN && kind != TAKE;
+    return kind != SETUP && kind != BULK_OUT && kind != BULK_IN && kind != INTERRUPT_IN && kind != TAKE;
 }
 
 static struct cost call_plain(struct pair *pair, const struct call *call, struct outcome *outcome)
@@ -136,7 +139,6 @@ static void require_same_unit(const struct pair *pair)
     require_equal(pair, "packet", port->packet, plain->packet_size);
     require_equal(pair, "configured", port->configured, plain->configured);
     require_equal(pair, "ren", port->ren, plain->ren);
-    require_equal(pair, "status", port->status, plain->status);
     require_equal(pair, "remote", port->remote, plain->remote);
 
     require_equal(pair, "out_held", port->out_held, plain->out_held);
@@ -159,9 +161,13 @@ static void require_same_unit(const struct pair *pair)
     require_equal(pair, "in_halted", port->in_halted, plain->in_halted);
     require_equal(pair, "in_recent", port->in_recent, plain->in_recent);
 
+    require_equal(pair, "status", port->status, plain->status);
+    require_equal(pair, "notify1", port->notify1, plain->notify1);
+    require_equal(pair, "notify2", port->notify2, plain->notify2);
+    require_equal(pair, "interrupt_halted", port->interrupt_halted, plain->interrupt_halted);
+
     require_equal(pair, "count", port->count, plain->split_count);
     require_equal(pair, "split", port->split, plain->split);
-    require_equal(pair, "zero", port->zero, 0);
 }
 
 struct made pair_call(struct pair *pair, const struct call *call)

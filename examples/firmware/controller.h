@@ -12,7 +12,7 @@
 enum handshake { HANDSHAKE_ACK, HANDSHAKE_NAK, HANDSHAKE_STALL };
 
 /* What the controller interrupts for. */
-enum controller_event { EVENT_SETUP, EVENT_BULK_OUT, EVENT_BULK_IN, EVENT_RESET, EVENT_SUSPEND };
+enum controller_event { EVENT_SETUP, EVENT_BULK_OUT, EVENT_BULK_IN, EVENT_INTERRUPT_IN, EVENT_RESET, EVENT_SUSPEND };
 
 /* The firmware's side. */
 

@@ -3,10 +3,11 @@
 #include "port.h"
 #include "thermostat.h"
 
-#define STATUS_REFUSED 0x20 /* the last message was refused */
-
 static struct {
     int32_t setpoint; /* in thousandths of a degree */
+    bool at_setpoint; /* the room is */
+    bool refused;     /* the last message was */
+    bool asks;        /* for service, and the port does not know yet */
 
     enum request question; /* being worked on, or NOTHING_ASKED */
     uint32_t generation;   /* of the message that is being worked on, or answered */
@@ -34,15 +35,16 @@ static void do_message(const uint8_t *message, size_t length)
     enum request request = thermostat_reads(message, length, &degrees);
 
     loop.question = NOTHING_ASKED;
+    loop.refused = request == REFUSED;
     if (request == SET_SETPOINT) {
         loop.setpoint = degrees;
         firmware_says("sets the setpoint to %ld thousandths of a degree", (long)degrees);
     } else if (request == REFUSED) {
-        firmware_says("refuses it, and says so in the status byte");
+        loop.asks = true;
+        firmware_says("refuses it");
     } else {
         loop.question = request;
     }
-    port_set_status(request == REFUSED ? STATUS_REFUSED : 0);
 }
 
 /* Always before anything is offered. A message that stays in the port holds the host's next request back (5, NAK): a loop that first
@@ -84,6 +86,30 @@ static void offer_answer(void)
     }
 }
 
+static void watch_room(void)
+{
+    bool was_at_setpoint = loop.at_setpoint;
+
+    loop.at_setpoint = thermostat_is_at(firmware_measures(), loop.setpoint);
+    if (loop.at_setpoint && !was_at_setpoint) {
+        loop.asks = true;
+        firmware_says("finds the room at its setpoint");
+    }
+}
+
+/* In every turn: SET_CONFIGURATION and a reset leave a status byte of 0. A request that cannot be made yet, since no host has configured
+   the device, is made when one has. */
+static void tell_status(void)
+{
+    uint8_t bits = (uint8_t)((loop.refused ? STATUS_COMMAND_ERROR : 0) | (loop.at_setpoint ? STATUS_AT_SETPOINT : 0));
+
+    if (!port_set_status(bits, loop.asks))
+        return;
+    if (loop.asks)
+        firmware_says("asks for service, with %02x in the status byte", bits);
+    loop.asks = false;
+}
+
 static void do_what_was_told(void)
 {
     if (port_triggered())
@@ -100,5 +126,7 @@ void firmware_turn(void)
         if (loop.answer_length != 0)
             offer_answer();
     }
+    watch_room();
+    tell_status();
     do_what_was_told();
 }

@@ -78,6 +78,8 @@ static const char *status_words(uint8_t status)
         return "SUCCESS";
     case 0x02:
         return "PENDING";
+    case 0x20:
+        return "INTERRUPT_IN_BUSY";
     case 0x80:
         return "FAILED";
     case 0x81:
@@ -266,4 +268,19 @@ void host_reads(void)
 {
     while (poll())
         ;
+}
+
+/* Interrupt-IN. */
+
+void host_polls_interrupt(void)
+{
+    struct wire_answer answer = wire_event(EVENT_INTERRUPT_IN, NULL, 0);
+
+    line_begins("host");
+    printf("polls Interrupt-IN: %s", words_of(answer.handshake));
+    if (answer.handshake == HANDSHAKE_ACK && answer.bytes[0] == 0x81)
+        printf(" %02x %02x, a service request", answer.bytes[0], answer.bytes[1]);
+    else if (answer.handshake == HANDSHAKE_ACK)
+        printf(" %02x %02x, the status byte that was asked for with tag %u", answer.bytes[0], answer.bytes[1], answer.bytes[0] - 0x80u);
+    printf("\n");
 }

@@ -38,6 +38,9 @@ void host_polls(void);
 /* Polls until a short packet closes the transfer, or until the device has nothing. */
 void host_reads(void);
 
+/* One poll of Interrupt-IN. */
+void host_polls_interrupt(void);
+
 /* Whether the thermostat had something to say since this was asked last. */
 bool host_heard_thermostat(void);
 

@@ -10,11 +10,16 @@
 
    The unread answer. A host that asks, does not read and asks again would meet the same, without any abort: no call takes a stored reply
    back. So an answer stays with the main loop until a request of the host waits for it (in_phase), and a new message puts it away. What
-   is left is a host that has fetched a part of an answer and asks something else: the rest comes first, unless it clears. */
+   is left is a host that has fetched a part of an answer and asks something else: the rest comes first, unless it clears.
+
+   The kept request. While a packet of Interrupt-IN waits, bit 6 of the status byte that the unit holds is the next service request, and a
+   byte that is set without it takes the request back. So the main loop sets the other bits, and bit 6 stays as it is held. */
 #include "port.h"
 
 #include "controller.h"
 #include "standard.h"
+
+#define ASKS_SERVICE 0x40u /* bit 6 of the status byte */
 
 static struct {
     struct tmc_unit unit;
@@ -33,8 +38,8 @@ static void start_over(void)
     controller_reattach();
 }
 
-/* What an answer means on a bulk endpoint. 2 and 3 do not come where the endpoints are off until SET_CONFIGURATION, and have the size
-   that the unit was powered on for. */
+/* What an answer means on a bulk endpoint or Interrupt-IN. 2 and 3 do not come where the endpoints are off until SET_CONFIGURATION, and
+   have the size that the unit was powered on for. */
 static enum handshake handshake_of(struct tmc_answer answer)
 {
     switch (answer.number) {
@@ -130,6 +135,16 @@ static void on_bulk_in(void)
     controller_answer(handshake_of(answer), bytes, answer.length);
 }
 
+static void on_interrupt_in(void)
+{
+    uint8_t bytes[TMC_INTERRUPT_BUFFER];
+    struct tmc_answer answer = tmc_interrupt_in(&port.unit, bytes, sizeof bytes);
+
+    if (answer.number == TMC_NUMBER_UNSOUND)
+        start_over();
+    controller_answer(handshake_of(answer), bytes, answer.length);
+}
+
 static void on_reset(void)
 {
     if (tmc_bus_reset(&port.unit).number == TMC_NUMBER_UNSOUND)
@@ -154,6 +169,9 @@ void controller_interrupt(enum controller_event event)
         break;
     case EVENT_BULK_IN:
         on_bulk_in();
+        break;
+    case EVENT_INTERRUPT_IN:
+        on_interrupt_in();
         break;
     case EVENT_RESET:
         on_reset();
@@ -203,11 +221,16 @@ enum port_offer port_offer(uint32_t generation, const uint8_t *reply, size_t len
     return offered;
 }
 
-void port_set_status(uint8_t status)
+bool port_set_status(uint8_t bits, bool asks)
 {
+    struct tmc_answer answer;
+    unsigned bit6;
+
     controller_mask();
-    tmc_set_status(&port.unit, status);
+    bit6 = asks ? ASKS_SERVICE : port.unit.status & ASKS_SERVICE;
+    answer = tmc_set_status(&port.unit, (uint8_t)((bits & ~ASKS_SERVICE) | bit6));
     controller_unmask();
+    return answer.number == TMC_NUMBER_DONE;
 }
 
 void port_panel(void)

@@ -22,7 +22,9 @@ enum port_offer {
 /* Offers the answer to a message of that generation. */
 enum port_offer port_offer(uint32_t generation, const uint8_t *reply, size_t length);
 
-void port_set_status(uint8_t status);
+/* The status byte, but for its bit 6, which is the port's own. With `asks` the host is told on Interrupt-IN. False: the device is not
+   configured, and nothing was set. */
+bool port_set_status(uint8_t bits, bool asks);
 
 /* The front panel's key. */
 void port_panel(void);

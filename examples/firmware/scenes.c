@@ -8,14 +8,13 @@
 
 static const struct setup get_device = {"GET_DESCRIPTOR of the device", 0x80, 6, 0x0100, 0, 18};
 static const struct setup set_address = {"SET_ADDRESS 5", 0x00, 5, 5, 0, 0};
-static const struct setup get_configuration = {"GET_DESCRIPTOR of the configuration", 0x80, 6, 0x0200, 0, 32};
+static const struct setup get_configuration = {"GET_DESCRIPTOR of the configuration", 0x80, 6, 0x0200, 0, 39};
 static const struct setup set_configuration = {"SET_CONFIGURATION 1", 0x00, 9, 1, 0, 0};
 static const struct setup set_interface = {"SET_INTERFACE 0", 0x01, 11, 0, 0, 0};
 static const struct setup get_string = {"GET_DESCRIPTOR of a string, of which there are none", 0x80, 6, 0x0301, 0, 255};
 static const struct setup get_capabilities = {"GET_CAPABILITIES", 0xA1, 7, 0, 0, 24};
 static const struct setup ren_on = {"REN_CONTROL 1", 0xA1, 160, 1, 0, 1};
 static const struct setup pulse = {"INDICATOR_PULSE", 0xA1, 64, 0, 0, 1};
-static const struct setup read_status = {"READ_STATUS_BYTE, tag 2", 0xA1, 128, 2, 0, 3};
 static const struct setup out_halted = {"GET_STATUS of Bulk-OUT", 0x82, 0, 0, 0x01, 2};
 static const struct setup clear_out = {"CLEAR_FEATURE, the halt of Bulk-OUT", 0x02, 1, 0, 0x01, 0};
 static const struct setup clear_in = {"CLEAR_FEATURE, the halt of Bulk-IN", 0x02, 1, 0, 0x82, 0};
@@ -27,6 +26,25 @@ static struct setup abort_in(uint8_t tag)
 {
     struct setup setup = {"INITIATE_ABORT_BULK_IN", 0xA2, 3, tag, 0x82, 2};
     return setup;
+}
+
+static struct setup read_status(uint8_t tag)
+{
+    struct setup setup = {"READ_STATUS_BYTE", 0xA1, 128, tag, 0, 3};
+    return setup;
+}
+
+static int32_t room = 19000;
+
+int32_t firmware_measures(void)
+{
+    return room;
+}
+
+static void room_is(int32_t thousandths)
+{
+    room = thousandths;
+    printf("  %-11s is at %ld thousandths of a degree\n", "room", (long)room);
 }
 
 static void scene(const char *title)
@@ -115,9 +133,8 @@ static void fault(void)
     host_setup(out_halted);
     host_sends(13, 1, ".5\n");
     turns(1);
-    host_setup(read_status);
+    host_polls_interrupt();
     ask(14, "SETP?\n");
-    host_setup(read_status);
 }
 
 static void tellings(void)
@@ -181,7 +198,7 @@ static void late_after_clear(void)
 
 static void late_after_features(void)
 {
-    scene("The same, and the host clears the halts of both endpoints instead");
+    scene("The same, and the host clears the halts of both bulk endpoints instead");
     host_sends(28, 1, "*IDN?\n");
     turns(1);
     host_asks(29, 1024);
@@ -201,16 +218,76 @@ static void unread(void)
     ask(34, "SETP?\n");
 }
 
+static void service(void)
+{
+    scene("A message that cannot be carried out: the bench is told on Interrupt-IN, and the status byte that it asks for comes there too");
+    host_polls_interrupt();
+    host_sends(36, 1, "SETP warm\n");
+    turns(1);
+    host_polls_interrupt();
+    host_setup(read_status(2));
+    host_polls_interrupt();
+    host_sends(37, 1, "SETP 23\n");
+    turns(1);
+    host_setup(read_status(3));
+    host_polls_interrupt();
+    host_polls_interrupt();
+}
+
+static void service_of_room(void)
+{
+    scene("The room comes to its setpoint, and leaves it: the bench is told of the first, and need not have asked");
+    room_is(21500);
+    turns(1);
+    host_polls_interrupt();
+    room_is(22950);
+    turns(1);
+    host_polls_interrupt();
+    room_is(23400);
+    turns(1);
+    host_polls_interrupt();
+    host_setup(read_status(4));
+    host_polls_interrupt();
+}
+
+/* SETP? can be carried out, and puts the error out in the status byte. Without the third guard of port.c it would take the kept request
+   back, and the second packet would not come. */
+static void never_polled(void)
+{
+    scene("A host that never polls Interrupt-IN: all else goes on, one request waits and one is kept; a program that polls later finds both");
+    host_sends(38, 1, "SETP warm\n");
+    turns(1);
+    host_setup(read_status(5));
+    room_is(23050);
+    turns(1);
+    host_sends(39, 1, "SETP cold\n");
+    turns(1);
+    ask(40, "SETP?\n");
+    host_setup(read_status(6));
+    host_setup(initiate_clear);
+    host_setup(check_clear);
+    host_setup(clear_out);
+    host_polls_interrupt();
+    host_setup(read_status(7));
+    host_polls_interrupt();
+    host_polls_interrupt();
+}
+
 static void bus(void)
 {
-    scene("Suspend, and a reset while the thermostat is at work");
+    scene("Suspend, over which a service request waits, and a reset while the thermostat is at work, after which the status byte is set anew");
+    host_sends(42, 1, "SETP warm\n");
+    turns(1);
     host_suspends();
-    host_sends(36, 1, "*IDN?\n");
+    host_polls_interrupt();
+    host_sends(43, 1, "*IDN?\n");
     turns(1);
     host_resets();
     turns(1);
     host_setup(set_configuration);
     ask(1, "SETP?\n");
+    host_setup(read_status(2));
+    host_polls_interrupt();
 }
 
 static void stray_write(void)
@@ -239,6 +316,9 @@ int main(void)
     late_after_clear();
     late_after_features();
     unread();
+    service();
+    service_of_room();
+    never_polled();
     bus();
     stray_write();
     return 0;

@@ -5,12 +5,13 @@
 /* 1209:0001 is a number for tests: put your own. */
 static const uint8_t device_descriptor[18] = {18, 1, 0x00, 0x02, 0, 0, 0, 64, 0x09, 0x12, 0x01, 0x00, 0x00, 0x01, 0, 0, 0, 1};
 
-/* One interface of class FE, subclass 03 (USBTMC), protocol 01 (USB488), with Bulk-OUT at 0x01 and Bulk-IN at 0x82. */
-static const uint8_t configuration_descriptor[32] = {
-    9, 2, 32,   0,    1, 1,  0, 0x80, 50,   /* configuration 1, 100 mA */
-    9, 4, 0,    0,    2, 0xFE, 3, 1, 0,     /* interface 0, two endpoints */
+/* One interface of class FE, subclass 03 (USBTMC), protocol 01 (USB488), with Bulk-OUT at 0x01, Bulk-IN at 0x82 and Interrupt-IN at 0x83. */
+static const uint8_t configuration_descriptor[39] = {
+    9, 2, 39,   0,    1, 1,  0, 0x80, 50,   /* configuration 1, 100 mA */
+    9, 4, 0,    0,    3, 0xFE, 3, 1, 0,     /* interface 0, three endpoints */
     7, 5, 0x01, 0x02, 64, 0, 0,             /* Bulk-OUT */
-    7, 5, 0x82, 0x02, 64, 0, 0              /* Bulk-IN */
+    7, 5, 0x82, 0x02, 64, 0, 0,             /* Bulk-IN */
+    7, 5, 0x83, 0x03, 2,  0, 16             /* Interrupt-IN: packets of 2 bytes, polled every 16 ms */
 };
 
 /* As many bytes as the host asks for, and there are. */

@@ -1,9 +1,9 @@
 #include "thermostat.h"
 
-#include <stdbool.h>
 #include <string.h>
 
 #define HIGHEST 99999 /* degrees, in thousandths: 99.999 */
+#define TOLERANCE 100 /* a tenth of a degree */
 
 /* 116 bytes: with the 12 of its header it fills two packets of 64, so that an empty one has to close the transfer. */
 static const char identity[] = "Tewennos works,proving-room thermostat,serial number 00027,"
@@ -95,4 +95,9 @@ size_t thermostat_answers(enum request question, int32_t setpoint, uint8_t *answ
         return sizeof identity - 1;
     }
     return 0;
+}
+
+bool thermostat_is_at(int32_t temperature, int32_t setpoint)
+{
+    return temperature >= setpoint - TOLERANCE && temperature <= setpoint + TOLERANCE;
 }

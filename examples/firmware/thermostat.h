@@ -2,6 +2,7 @@
 #ifndef THERMOSTAT_H
 #define THERMOSTAT_H
 
+#include <stdbool.h>
 #include <stddef.h>
 #include <stdint.h>
 
@@ -13,5 +14,15 @@ enum request thermostat_reads(const uint8_t *message, size_t length, int32_t *th
 
 /* The answer to a question, in `answer`; its length. */
 size_t thermostat_answers(enum request question, int32_t setpoint, uint8_t *answer, size_t room);
+
+/* What the status byte says. The host is asked for service when the room comes to its setpoint, and at each message that cannot be carried
+   out. */
+enum thermostat_status {
+    STATUS_AT_SETPOINT = 0x01,  /* the room is at its setpoint */
+    STATUS_COMMAND_ERROR = 0x20 /* the last message could not be carried out */
+};
+
+/* Whether a room of that temperature is at its setpoint: a tenth of a degree more or less is. */
+bool thermostat_is_at(int32_t temperature, int32_t setpoint);
 
 #endif

@@ -3,7 +3,7 @@
 use crate::cells::*;
 use crate::line::{Call, LONGEST_LINE};
 use crate::traffic::Traffic;
-use crate::unit::{BULK_IN, BULK_OUT, CONTROL_BUFFER, HEADER, STORE};
+use crate::unit::{BULK_IN, BULK_OUT, CONTROL_BUFFER, HEADER, INTERRUPT_IN, SERVICE, STORE};
 
 pub const REFUSED_SIZES: [usize; 14] = [0, 1, 8, 16, 32, 63, 65, 128, 256, 511, 513, 1024, 4096, 65_535];
 
@@ -165,7 +165,8 @@ impl Traffic {
                 row.packet(self.random.pick(&wrong), index, length)
             }
             COLUMN_INDEX => {
-                let wrong = [index ^ 1, index | 0x100, index | 0x8000, 0, 1, 2, 0x81, 0x82, index + 1];
+                let wrong =
+                    [index ^ 1, index | 0x100, index | 0x8000, 0, 1, 2, 3, 0x81, 0x82, 0x83, 0x84, 0x183, index + 1];
                 row.packet(value, self.random.pick(&wrong), length)
             }
             _ => {
@@ -207,8 +208,9 @@ impl Traffic {
             Kind::GetCapabilities => self.setup("GET_CAPABILITIES", 0, 0),
             Kind::IndicatorPulse => self.setup("INDICATOR_PULSE", 0, 0),
             Kind::ReadStatusByte => {
-                let start = self.random.below(self.coverage.status_tags.len());
-                let tag = self.coverage.status_tags.missing(start) as u16 + 2;
+                let waits = self.player.unit.waiting.is_some();
+                let sweep = if waits { &self.coverage.status_tags_busy } else { &self.coverage.status_tags };
+                let tag = sweep.missing(self.random.below(sweep.len())) as u16 + 2;
                 let tag = self.random.pick(&[tag, tag, tag, 2, 127]);
                 self.setup("READ_STATUS_BYTE", tag, 0)
             }
@@ -218,10 +220,13 @@ impl Traffic {
             Kind::LocalLockout => self.setup("LOCAL_LOCKOUT", 0, 0),
             Kind::ClearHaltOut => self.setup("CLEAR_FEATURE", 0, BULK_OUT),
             Kind::ClearHaltIn => self.setup("CLEAR_FEATURE", 0, BULK_IN),
+            Kind::ClearHaltInterrupt => self.setup("CLEAR_FEATURE", 0, INTERRUPT_IN),
             Kind::SetHaltOut => self.setup("SET_FEATURE", 0, BULK_OUT),
             Kind::SetHaltIn => self.setup("SET_FEATURE", 0, BULK_IN),
+            Kind::SetHaltInterrupt => self.setup("SET_FEATURE", 0, INTERRUPT_IN),
             Kind::GetStatusOut => self.setup("GET_STATUS", 0, BULK_OUT),
             Kind::GetStatusIn => self.setup("GET_STATUS", 0, BULK_IN),
+            Kind::GetStatusInterrupt => self.setup("GET_STATUS", 0, INTERRUPT_IN),
             Kind::Unconfigure => self.setup("SET_CONFIGURATION", 0, 0),
             Kind::Configure => self.setup("SET_CONFIGURATION", 1, 0),
             Kind::NoRow => {
@@ -291,6 +296,8 @@ impl Traffic {
             }
             Kind::In => Call::In(self.random.pick(&[None, None, None, Some(p), Some(p + 1), Some(2048)])),
             Kind::InSmall => Call::In(Some(self.random.pick(&[p - 1, p - 1, 0, 1, p / 2]))),
+            Kind::In3 => Call::In3(self.random.pick(&[2, 2, 2, 2, 3, 64, 2048])),
+            Kind::In3Small => Call::In3(self.random.pick(&[0, 1, 1])),
             Kind::Take => {
                 let held = self.player.unit.held();
                 let around = [held.saturating_sub(1), held, held + 1, 0, STORE, STORE, STORE, 2048];
@@ -308,9 +315,14 @@ impl Traffic {
                 Call::Offer(self.data(size))
             }
             Kind::Status => {
-                let start = self.random.below(256);
-                let missing = self.coverage.status_bytes.missing(start) as u8;
-                Call::Status(self.random.pick(&[missing, missing, 0x40, 0x00, 0xFF]))
+                let missing = status_byte(self.coverage.bytes_read.missing(self.random.below(128)));
+                Call::Status(self.random.pick(&[missing, missing, 0x00, 0xBF]))
+            }
+            Kind::ServiceRequest => {
+                let waits = self.player.unit.waiting.is_some();
+                let sweep = if waits { &self.coverage.bytes_kept } else { &self.coverage.bytes_requested };
+                let missing = status_byte(sweep.missing(self.random.below(128))) | SERVICE;
+                Call::Status(self.random.pick(&[missing, missing, SERVICE, 0xFF]))
             }
             Kind::Local => Call::Local,
             Kind::Reset => Call::Reset,

@@ -1,10 +1,12 @@
-//! The cells of the coverage: what a call is, where the unit stands, and which of the pairs document 01 allows.
+//! The cells of the coverage: what a call is, where the unit stands, and which of the pairs the papers allow.
 //!
 //! All of it is told from a call and a unit, not from what the traffic meant to send. What the unit's rules say is
 //! written down here once more, each rule for itself, so that a slip in one of the two shows.
 
 use crate::line::{Call, Outcome};
-use crate::unit::{Message, Number, Remote, Split, Unit, BULK_IN, BULK_OUT, HEADER, STORE};
+use crate::unit::{
+    Message, Number, Remote, Split, Unit, BULK_IN, BULK_OUT, HEADER, INTERRUPT_IN, NOTIFICATION, SERVICE, STORE,
+};
 
 /// 0 for P = 64, 1 for P = 512
 pub fn size_column(unit: &Unit) -> usize {
@@ -32,7 +34,7 @@ const fn setup_row(
     SetupRow { name, request_type, request, values, indices, length }
 }
 
-pub const ENDPOINTS: &[u16] = &[BULK_OUT, BULK_IN];
+pub const ENDPOINTS: &[u16] = &[BULK_OUT, BULK_IN, INTERRUPT_IN];
 
 #[rustfmt::skip]
 pub const SETUP_ROWS: [SetupRow; 16] = [
@@ -77,13 +79,18 @@ impl SetupRow {
 }
 
 /// Columns of the table of setup rows: what the row answered, or what kept the packet from matching it.
-pub const SETUP_COLUMNS: [&str; 14] =
-    ["01", "02", "80", "81", "82", "83", "empty", "running", "halted", "unconf", "type", "value", "index", "length"];
-pub const COLUMN_UNCONFIGURED: usize = 9;
-pub const COLUMN_TYPE: usize = 10;
-pub const COLUMN_VALUE: usize = 11;
-pub const COLUMN_INDEX: usize = 12;
-pub const COLUMN_LENGTH: usize = 13;
+#[rustfmt::skip]
+pub const SETUP_COLUMNS: [&str; 15] = [
+    "01", "02", "20", "80", "81", "82", "83", "empty", "running", "halted", "unconf", "type", "value", "index",
+    "length",
+];
+pub const COLUMN_EMPTY: usize = 7;
+pub const COLUMN_RUNNING: usize = 8;
+pub const COLUMN_UNCONFIGURED: usize = 10;
+pub const COLUMN_TYPE: usize = 11;
+pub const COLUMN_VALUE: usize = 12;
+pub const COLUMN_INDEX: usize = 13;
+pub const COLUMN_LENGTH: usize = 14;
 
 pub fn setup_allowed(row: usize, column: usize) -> bool {
     let answers: &[&str] = match SETUP_ROWS[row].name {
@@ -93,6 +100,7 @@ pub fn setup_allowed(row: usize, column: usize) -> bool {
         "INITIATE_CLEAR" => &["01", "83"],
         "CLEAR_FEATURE" | "SET_FEATURE" | "SET_CONFIGURATION" => &["empty"],
         "GET_STATUS" => &["running", "halted"],
+        "READ_STATUS_BYTE" => &["01", "20"],
         _ => &["01"],
     };
     match column {
@@ -102,7 +110,7 @@ pub fn setup_allowed(row: usize, column: usize) -> bool {
     }
 }
 
-/// What a call is, seen together with the unit it comes to. `state` is none of these.
+/// What a call is, seen together with the unit it comes to. `state` and `more` are none of these.
 #[derive(Clone, Copy, Debug, PartialEq, Eq)]
 pub enum Kind {
     Power,
@@ -125,10 +133,13 @@ pub enum Kind {
     LocalLockout,
     ClearHaltOut,
     ClearHaltIn,
+    ClearHaltInterrupt,
     SetHaltOut,
     SetHaltIn,
+    SetHaltInterrupt,
     GetStatusOut,
     GetStatusIn,
+    GetStatusInterrupt,
     Unconfigure,
     Configure,
     NoRow,
@@ -142,17 +153,22 @@ pub enum Kind {
     OutContinuing,
     In,
     InSmall,
+    In3,
+    In3Small,
     Take,
     Offer,
     OfferRefused,
+    /// Bit 6 off
     Status,
+    /// Bit 6 on
+    ServiceRequest,
     Local,
     Reset,
     Suspend,
 }
 
 #[rustfmt::skip]
-pub const KINDS: [(Kind, &str); 43] = [
+pub const KINDS: [(Kind, &str); 49] = [
     (Kind::Power, "power"),
     (Kind::PowerRefused, "power, refused size"),
     (Kind::AbortOut, "INITIATE_ABORT_BULK_OUT, its tag"),
@@ -172,10 +188,13 @@ pub const KINDS: [(Kind, &str); 43] = [
     (Kind::LocalLockout, "LOCAL_LOCKOUT"),
     (Kind::ClearHaltOut, "CLEAR_FEATURE 0x01"),
     (Kind::ClearHaltIn, "CLEAR_FEATURE 0x82"),
+    (Kind::ClearHaltInterrupt, "CLEAR_FEATURE 0x83"),
     (Kind::SetHaltOut, "SET_FEATURE 0x01"),
     (Kind::SetHaltIn, "SET_FEATURE 0x82"),
+    (Kind::SetHaltInterrupt, "SET_FEATURE 0x83"),
     (Kind::GetStatusOut, "GET_STATUS 0x01"),
     (Kind::GetStatusIn, "GET_STATUS 0x82"),
+    (Kind::GetStatusInterrupt, "GET_STATUS 0x83"),
     (Kind::Unconfigure, "SET_CONFIGURATION 0"),
     (Kind::Configure, "SET_CONFIGURATION 1"),
     (Kind::NoRow, "setup, no row"),
@@ -189,10 +208,13 @@ pub const KINDS: [(Kind, &str); 43] = [
     (Kind::OutContinuing, "out, continuing"),
     (Kind::In, "in"),
     (Kind::InSmall, "in under P"),
+    (Kind::In3, "in3"),
+    (Kind::In3Small, "in3 under 2"),
     (Kind::Take, "take"),
     (Kind::Offer, "offer"),
     (Kind::OfferRefused, "offer, wrong size"),
-    (Kind::Status, "status"),
+    (Kind::Status, "status, bit 6 off"),
+    (Kind::ServiceRequest, "status, bit 6 on"),
     (Kind::Local, "local"),
     (Kind::Reset, "reset"),
     (Kind::Suspend, "suspend"),
@@ -210,7 +232,7 @@ impl Kind {
                 let row = SETUP_ROWS.iter().find(|row| row.request == packet[1] && row.fits(packet) == [true; 4]);
                 let Some(row) = row else { return Some(Kind::NoRow) };
                 let value = packet[2];
-                let at_out = u16::from(packet[4]) == BULK_OUT;
+                let index = u16::from(packet[4]);
                 match row.name {
                     "INITIATE_ABORT_BULK_OUT" if value == abort_tag_out(unit) => Kind::AbortOut,
                     "INITIATE_ABORT_BULK_OUT" => Kind::AbortOutOtherTag,
@@ -227,12 +249,15 @@ impl Kind {
                     "REN_CONTROL" => Kind::RenOn,
                     "GO_TO_LOCAL" => Kind::GoToLocal,
                     "LOCAL_LOCKOUT" => Kind::LocalLockout,
-                    "CLEAR_FEATURE" if at_out => Kind::ClearHaltOut,
-                    "CLEAR_FEATURE" => Kind::ClearHaltIn,
-                    "SET_FEATURE" if at_out => Kind::SetHaltOut,
-                    "SET_FEATURE" => Kind::SetHaltIn,
-                    "GET_STATUS" if at_out => Kind::GetStatusOut,
-                    "GET_STATUS" => Kind::GetStatusIn,
+                    "CLEAR_FEATURE" if index == BULK_OUT => Kind::ClearHaltOut,
+                    "CLEAR_FEATURE" if index == BULK_IN => Kind::ClearHaltIn,
+                    "CLEAR_FEATURE" => Kind::ClearHaltInterrupt,
+                    "SET_FEATURE" if index == BULK_OUT => Kind::SetHaltOut,
+                    "SET_FEATURE" if index == BULK_IN => Kind::SetHaltIn,
+                    "SET_FEATURE" => Kind::SetHaltInterrupt,
+                    "GET_STATUS" if index == BULK_OUT => Kind::GetStatusOut,
+                    "GET_STATUS" if index == BULK_IN => Kind::GetStatusIn,
+                    "GET_STATUS" => Kind::GetStatusInterrupt,
                     _ if value == 0 => Kind::Unconfigure,
                     _ => Kind::Configure,
                 }
@@ -248,14 +273,17 @@ impl Kind {
             },
             Call::In(Some(buffer)) if *buffer < unit.packet_size => Kind::InSmall,
             Call::In(_) => Kind::In,
+            Call::In3(buffer) if *buffer < NOTIFICATION => Kind::In3Small,
+            Call::In3(_) => Kind::In3,
             Call::Take(_) => Kind::Take,
             Call::Offer(reply) if reply.is_empty() || reply.len() > STORE => Kind::OfferRefused,
             Call::Offer(_) => Kind::Offer,
+            Call::Status(status) if status & SERVICE != 0 => Kind::ServiceRequest,
             Call::Status(_) => Kind::Status,
             Call::Local => Kind::Local,
             Call::Reset => Kind::Reset,
             Call::Suspend => Kind::Suspend,
-            Call::State => return None,
+            Call::State | Call::More => return None,
         })
     }
 }
@@ -346,6 +374,139 @@ pub fn in_column(unit: &Unit) -> Option<usize> {
     })
 }
 
+/// Where Interrupt-IN stands: `empty`, the packet of a `request` or of a `read` waits, a request is `kept` behind it, or
+/// kept with bit 6 set `off` since; and the same while 0x83 is halted.
+#[rustfmt::skip]
+pub const INTERRUPT_COLUMNS: [&str; 10] = [
+    "empty", "request", "read", "kept", "kept, off",
+    "halted", "halted+request", "halted+read", "halted+kept", "halted+kept, off",
+];
+
+/// None for an unconfigured unit, which has only one such point.
+pub fn interrupt_column(unit: &Unit) -> Option<usize> {
+    if !unit.configured {
+        return None;
+    }
+    let point = match unit.waiting {
+        None => 0,
+        Some(_) if unit.request_kept && unit.status & SERVICE != 0 => 3,
+        Some(_) if unit.request_kept => 4,
+        Some([0x81, _]) => 1,
+        Some(_) => 2,
+    };
+    Some(point + if unit.interrupt_halted { 5 } else { 0 })
+}
+
+/// How a packet came to wait: a service request with none waiting, one that was kept, or READ_STATUS_BYTE.
+#[derive(Clone, Copy, Debug, PartialEq, Eq)]
+pub enum Origin {
+    Request,
+    Kept,
+    Read,
+}
+
+/// What comes to Interrupt-IN, with 0x83 running unless it is said.
+#[rustfmt::skip]
+pub const INTERRUPT_EVENTS: [&str; 27] = [
+    "in3 brings a request", "in3 brings a kept request", "in3 brings a read",
+    "in3 queues the kept request", "in3 ends a kept request, bit 6 off",
+    "in3 is 3", "in3 is 4, a packet waits", "in3 is 4, none waits", "in3 is 5",
+    "request queued", "request kept", "request made again", "request queued, halted", "request kept, halted",
+    "bit 6 set off, a request kept", "bit 6 off, a packet waits", "bit 6 off, none waits",
+    "READ_STATUS_BYTE 01", "READ_STATUS_BYTE 20", "READ_STATUS_BYTE 01, halted", "READ_STATUS_BYTE 20, halted",
+    "SET_FEATURE 0x83", "SET_FEATURE 0x83, halted", "CLEAR_FEATURE 0x83", "CLEAR_FEATURE 0x83, halted",
+    "GET_STATUS 0x83", "GET_STATUS 0x83, halted",
+];
+
+/// The events that a call is, one or two.
+pub fn interrupt_events(
+    before: &Unit,
+    kind: Kind,
+    outcome: &Outcome,
+    origin: Option<Origin>,
+    after: &Unit,
+) -> Vec<&'static str> {
+    let halted = before.interrupt_halted;
+    let waits = before.waiting.is_some();
+    let number = outcome.number as u8;
+    if number == 2 || number == 15 {
+        return Vec::new();
+    }
+    match kind {
+        Kind::In3 | Kind::In3Small => match number {
+            0 => {
+                let mut events = vec![match origin {
+                    Some(Origin::Request) => "in3 brings a request",
+                    Some(Origin::Kept) => "in3 brings a kept request",
+                    _ => "in3 brings a read",
+                }];
+                if after.waiting.is_some() {
+                    events.push("in3 queues the kept request");
+                } else if before.request_kept {
+                    events.push("in3 ends a kept request, bit 6 off");
+                }
+                events
+            }
+            3 => vec!["in3 is 3"],
+            4 if waits => vec!["in3 is 4, a packet waits"],
+            4 => vec!["in3 is 4, none waits"],
+            _ => vec!["in3 is 5"],
+        },
+        Kind::ServiceRequest => vec![match (waits, halted) {
+            _ if before.request_kept => "request made again",
+            (false, false) => "request queued",
+            (true, false) => "request kept",
+            (false, true) => "request queued, halted",
+            (true, true) => "request kept, halted",
+        }],
+        Kind::Status => vec![match waits {
+            _ if before.status & SERVICE != 0 => "bit 6 set off, a request kept",
+            true => "bit 6 off, a packet waits",
+            false => "bit 6 off, none waits",
+        }],
+        Kind::ReadStatusByte => vec![match (waits, halted) {
+            (false, false) => "READ_STATUS_BYTE 01",
+            (true, false) => "READ_STATUS_BYTE 20",
+            (false, true) => "READ_STATUS_BYTE 01, halted",
+            (true, true) => "READ_STATUS_BYTE 20, halted",
+        }],
+        Kind::SetHaltInterrupt => vec![if halted { "SET_FEATURE 0x83, halted" } else { "SET_FEATURE 0x83" }],
+        Kind::ClearHaltInterrupt => vec![if halted { "CLEAR_FEATURE 0x83, halted" } else { "CLEAR_FEATURE 0x83" }],
+        Kind::GetStatusInterrupt => vec![if halted { "GET_STATUS 0x83, halted" } else { "GET_STATUS 0x83" }],
+        _ => Vec::new(),
+    }
+}
+
+/// "polling 0x83 goes 1, 2, 3 (buffer under 2), 4 halted, 5 empty"
+pub const POLL_REFUSALS: [u8; 4] = [2, 3, 4, 5];
+pub const POLL_REFUSAL_NAMES: [&str; 4] = ["2", "3", "4", "5"];
+
+/// Which pairs of refusals a poll of 0x83 can have. On the diagonal the refusal is the only one.
+pub fn poll_pair_allowed(row: usize, column: usize) -> bool {
+    let seconds: &[u8] = match POLL_REFUSALS[row] {
+        // An unconfigured unit is not halted and has no packet.
+        2 => &[3, 5],
+        3 => &[3, 4, 5],
+        4 => &[4, 5],
+        _ => &[5],
+    };
+    seconds.contains(&POLL_REFUSALS[column])
+}
+
+/// Every refusal of a poll of 0x83, each judged for itself.
+pub fn poll_refusals(unit: &Unit, buffer: usize) -> [bool; 4] {
+    [!unit.configured, buffer < NOTIFICATION, unit.interrupt_halted, unit.waiting.is_none()]
+}
+
+/// The status bytes with bit 6 off, numbered from 0 to 127, and their numbers.
+pub fn status_byte(number: usize) -> u8 {
+    (number & 0x3F | (number & 0x40) << 1) as u8
+}
+
+pub fn status_number(status: u8) -> usize {
+    usize::from(status & 0x3F | (status & 0x80) >> 1)
+}
+
 pub const REMOTE_ROWS: [&str; 5] = ["LOCS, REN off", "LOCS, REN on", "REMS", "LWLS", "RWLS"];
 
 pub fn remote_row(unit: &Unit) -> usize {
@@ -358,9 +519,9 @@ pub fn remote_row(unit: &Unit) -> usize {
 }
 
 #[rustfmt::skip]
-pub const REMOTE_EVENTS: [&str; 17] = [
+pub const REMOTE_EVENTS: [&str; 20] = [
     "MSG_OUT", "6 to 10", "12", "11, 14", "REQUEST", "TRIGGER", "GO_TO_LOCAL", "panel", "LOCKOUT", "REN 1", "REN 0",
-    "suspend", "reset", "CONFIG 0", "CONFIG 1", "CLEAR", "status",
+    "suspend", "reset", "CONFIG 0", "CONFIG 1", "CLEAR", "status", "READ_STATUS", "in3", "0x83 halt",
 ];
 
 pub fn remote_event(kind: Kind, outcome: &Outcome) -> Option<usize> {
@@ -386,7 +547,10 @@ pub fn remote_event(kind: Kind, outcome: &Outcome) -> Option<usize> {
         Kind::Unconfigure => "CONFIG 0",
         Kind::Configure => "CONFIG 1",
         Kind::InitiateClear if done => "CLEAR",
-        Kind::Status if done => "status",
+        Kind::Status | Kind::ServiceRequest if done => "status",
+        Kind::ReadStatusByte if done => "READ_STATUS",
+        Kind::In3 if done => "in3",
+        Kind::SetHaltInterrupt | Kind::ClearHaltInterrupt if done => "0x83 halt",
         _ => return None,
     };
     REMOTE_EVENTS.iter().position(|event| *event == name)
@@ -513,12 +677,13 @@ pub fn reserved_places(packet: &[u8]) -> [bool; 17] {
     places
 }
 
-pub const NUMBER_ROWS: [&str; 12] = [
+pub const NUMBER_ROWS: [&str; 14] = [
     "power",
     "setup",
     "out, no transfer open",
     "out, continuing",
     "in",
+    "in3",
     "take",
     "offer",
     "status",
@@ -526,6 +691,7 @@ pub const NUMBER_ROWS: [&str; 12] = [
     "reset",
     "suspend",
     "state",
+    "more",
 ];
 pub const NUMBERS: [u8; 16] = [0, 2, 3, 4, 5, 6, 7, 8, 9, 10, 11, 12, 13, 14, 15, 16];
 pub const NUMBER_NAMES: [&str; 16] =
@@ -537,13 +703,15 @@ pub fn number_row(unit: &Unit, call: &Call) -> usize {
         Call::Setup(..) => 1,
         Call::Out(_) => 2 + usize::from(unit.out_transfer.is_some()),
         Call::In(_) => 4,
-        Call::Take(_) => 5,
-        Call::Offer(_) => 6,
-        Call::Status(_) => 7,
-        Call::Local => 8,
-        Call::Reset => 9,
-        Call::Suspend => 10,
-        Call::State => 11,
+        Call::In3(_) => 5,
+        Call::Take(_) => 6,
+        Call::Offer(_) => 7,
+        Call::Status(_) => 8,
+        Call::Local => 9,
+        Call::Reset => 10,
+        Call::Suspend => 11,
+        Call::State => 12,
+        Call::More => 13,
     }
 }
 
@@ -553,7 +721,7 @@ pub fn number_allowed(row: usize, column: usize) -> bool {
         "setup" => &[0, 3, 15],
         "out, no transfer open" => &[0, 2, 3, 4, 5, 6, 7, 8, 9, 10, 11, 12, 13, 14],
         "out, continuing" => &[0, 3, 6, 11, 14],
-        "in" => &[0, 2, 3, 4, 5],
+        "in" | "in3" => &[0, 2, 3, 4, 5],
         "take" | "offer" => &[0, 2, 3, 16],
         "status" | "local" => &[0, 2],
         _ => &[0],
@@ -609,6 +777,22 @@ pub const BOUNDARIES: &[&str] = &[
     "poll waits: no transfer, no reply", "poll waits: no transfer, reply stored", "poll waits: transfer open, no reply",
     "owed packet polled, no reply", "owed packet polled, new reply stays", "owed packet, IN buffer P - 1 is 3",
     "owed packet, Bulk-IN halted is 4",
+    // Interrupt-IN
+    "in3 buffer 0 is 3", "in3 buffer 1 is 3", "in3 buffer 2", "in3 buffer 3", "in3 buffer 64", "in3 buffer 2,048",
+    "in3 brings a request and queues the kept one", "in3 brings a read and queues the kept request",
+    "in3 right after the poll that queued a kept request", "status right after the poll that queued a kept request",
+    "READ_STATUS_BYTE right after the poll that queued a kept request is 20",
+    "INITIATE_CLEAR right after the poll that queued a kept request",
+    "bit 6 on again before the poll", "a kept request with another byte than before",
+    "bit 6 off with the packet of a request waiting", "bit 6 off with the packet of a read waiting",
+    "bit 6 off right after a read was queued", "READ_STATUS_BYTE with a request kept and bit 6 off is 20",
+    "in3 brings a packet with both bulk endpoints halted", "in is 0 with 0x83 halted", "out is 0 with 0x83 halted",
+    "take is 0 with a packet waiting", "offer is 0 with a packet waiting",
+    "INITIATE_CLEAR with a packet and a kept request is 01", "INITIATE_CLEAR with 0x83 halted is 01",
+    "CHECK_CLEAR_STATUS with a packet and a kept request is 01", "CLEAR_FEATURE 0x83 with all three halted",
+    "INITIATE_ABORT at 0x83 matches no row", "CHECK_ABORT at 0x83 matches no row",
+    "feature or status row at 0x03 matches no row", "feature or status row at 0x183 matches no row",
+    "feature or status row at 0x84 matches no row",
     // The thermostat's calls
     "take buffer 0 is 3", "take buffer one short is 3", "take buffer exact", "take buffer one more", "take buffer 2,048",
     "take with nothing there, buffer 0, is 16", "take of an unfinished message is 16", "take with Bulk-OUT halted",
@@ -621,7 +805,7 @@ pub const BOUNDARIES: &[&str] = &[
     "control buffer 0 is 3", "control buffer 23 is 3", "control buffer 23 and no row is 3", "control buffer 24",
     "control buffer 25", "abort tag 0 matches no row", "abort tag 1", "abort tag 255", "abort tag 256 matches no row",
     "READ_STATUS_BYTE tag 1 matches no row", "READ_STATUS_BYTE tag 2", "READ_STATUS_BYTE tag 127",
-    "READ_STATUS_BYTE tag 128 matches no row", "READ_STATUS_BYTE with bit 6 set",
+    "READ_STATUS_BYTE tag 128 matches no row", "READ_STATUS_BYTE with bit 6 held is 20",
     "INITIATE_ABORT_BULK_OUT in a later transfer", "INITIATE_ABORT_BULK_IN with Bulk-IN halted is 01",
     "INITIATE_ABORT_BULK_IN of a wrong tag + 1 is 81", "INITIATE_CLEAR in abort-OUT", "INITIATE_CLEAR in abort-IN, owed",
     "INITIATE_CLEAR in abort-IN, polled, new transfer open", "INITIATE_CLEAR with Bulk-IN halted and a transfer open",
@@ -678,11 +862,20 @@ mod tests {
     }
 
     #[test]
+    fn the_status_bytes_without_bit_6_have_numbers() {
+        for number in 0..128 {
+            assert_eq!(status_byte(number) & SERVICE, 0);
+            assert_eq!(status_number(status_byte(number)), number);
+            assert_eq!(status_number(status_byte(number) | SERVICE), number);
+        }
+    }
+
+    #[test]
     fn the_rows_written_here_and_those_of_the_unit_agree() {
         for request_type in [0x00, 0x02, 0x21, 0x22, 0x80, 0x82, 0xA1, 0xA2] {
             for request in 0..=255 {
                 for value in [0, 1, 2, 3, 127, 128, 255, 256, 0x100, 0x8000] {
-                    for index in [0, 1, 2, 0x81, 0x82, 0x101, 0x182] {
+                    for index in [0, 1, 2, 3, 0x81, 0x82, 0x83, 0x84, 0x101, 0x182, 0x183] {
                         for length in [0, 1, 2, 3, 8, 9, 24, 0x100, 0x101] {
                             let row =
                                 SetupRow { request_type, request, name: "", values: (0, 0), indices: &[], length };

@@ -233,7 +233,7 @@ impl Found {
                     short.difference.program,
                 ));
                 text.push_str(
-                    "\nFind the sentence of document 01 that decides it, put the side right that breaks it, and keep\n\
+                    "\nFind the sentence of 01 or 02 that decides it, put the side right that breaks it, and keep\n\
                      the script as a vector.\n",
                 );
             }
@@ -259,7 +259,7 @@ pub fn report(options: &Options) -> Result<(String, bool), String> {
     let empty = compared.coverage.empty();
     let impossible = compared.coverage.impossible();
     text.push_str(&format!(
-        "\n{} calls and {} `state` lines, {} lines in all, seed {}, {:.1} seconds: every answer is the same.\n",
+        "\n{} calls, {} `state` and `more`, {} lines in all, seed {}, {:.1} seconds: every answer is the same.\n",
         thousands(calls),
         thousands(compared.coverage.states),
         thousands(compared.lines),
@@ -270,7 +270,7 @@ pub fn report(options: &Options) -> Result<(String, bool), String> {
     if !impossible.is_empty() {
         well = false;
         text.push_str(&format!(
-            "FAILED: the model came to {} cells that document 01 does not allow:\n  {}\n\
+            "FAILED: the model came to {} cells that 01 and 02 do not allow:\n  {}\n\
              Put the model right, or the table.\n",
             impossible.len(),
             impossible.join("\n  "),

@@ -3,7 +3,7 @@
 use crate::cells::*;
 use crate::grid::{Grid, Sweep};
 use crate::line::{Call, Outcome, LONGEST_LINE};
-use crate::unit::{Number, Reply, Split, Unit, HEADER, STORE};
+use crate::unit::{Number, Reply, Split, Unit, HEADER, INTERRUPT_IN, SERVICE, STORE};
 use std::collections::HashMap;
 use std::fmt::Write;
 
@@ -11,7 +11,7 @@ use std::fmt::Write;
 pub const ENOUGH_CALLS: u64 = 200_000;
 
 pub struct Coverage {
-    /// Calls other than `state`.
+    /// Lines that are calls on the unit, and those with `state` or `more`, which are none.
     pub calls: u64,
     pub states: u64,
     pub numbers: Grid,
@@ -19,6 +19,9 @@ pub struct Coverage {
     pub splits: Grid,
     pub out_points: Grid,
     pub in_points: Grid,
+    pub interrupt_points: Grid,
+    pub interrupt_events: Grid,
+    pub poll_refusals: Grid,
     pub remote: Grid,
     pub header_faults: Grid,
     pub later_faults: Grid,
@@ -38,8 +41,16 @@ pub struct Coverage {
     pub tags: Sweep,
     pub ids_refused: Sweep,
     pub status_tags: Sweep,
-    pub status_bytes: Sweep,
+    pub status_tags_busy: Sweep,
+    pub bytes_read: Sweep,
+    pub bytes_requested: Sweep,
+    pub bytes_kept: Sweep,
     pub term_chars: Sweep,
+    /// How the packet that waits came to wait.
+    origin: Option<Origin>,
+    /// The call before was a poll of 0x83 that queued a kept request, or a READ_STATUS_BYTE answered 01.
+    kept_just_queued: bool,
+    read_just_queued: bool,
     /// The remote/local event of the call before, to be counted where `state` follows it.
     remote_event: Option<(usize, usize)>,
 }
@@ -61,6 +72,19 @@ impl Coverage {
             splits: Grid::new("call x split state", &kinds, &SPLIT_COLUMNS, split_allowed),
             out_points: Grid::new("call x point of Bulk-OUT", &kinds, &OUT_COLUMNS, out_allowed),
             in_points: Grid::new("call x point of Bulk-IN", &kinds, &IN_COLUMNS, |_, _| true),
+            interrupt_points: Grid::new("call x point of Interrupt-IN", &kinds, &INTERRUPT_COLUMNS, |_, _| true),
+            interrupt_events: Grid::new(
+                "event of Interrupt-IN x split state",
+                &INTERRUPT_EVENTS,
+                &SPLIT_COLUMNS,
+                |_, _| true,
+            ),
+            poll_refusals: Grid::new(
+                "in3: refusal answered x refusal also there",
+                &POLL_REFUSAL_NAMES,
+                &POLL_REFUSAL_NAMES,
+                poll_pair_allowed,
+            ),
             remote: Grid::new(
                 "remote/local x event, with `state` right after it",
                 &REMOTE_ROWS,
@@ -100,20 +124,29 @@ impl Coverage {
                 .collect(),
             tags: Sweep::new("tags accepted", 255),
             ids_refused: Sweep::new("MsgIDs that are 9", 253),
-            status_tags: Sweep::new("READ_STATUS_BYTE tags", 126),
-            status_bytes: Sweep::new("status bytes read", 256),
+            status_tags: Sweep::new("READ_STATUS_BYTE tags polled on 0x83", 126),
+            status_tags_busy: Sweep::new("READ_STATUS_BYTE tags that are 20", 126),
+            bytes_read: Sweep::new("status bytes that READ_STATUS_BYTE brings", 128),
+            bytes_requested: Sweep::new("status bytes that a service request brings", 128),
+            bytes_kept: Sweep::new("status bytes that a kept request brings", 128),
             term_chars: Sweep::new("TermChars that end a transfer", 256),
+            origin: None,
+            kept_just_queued: false,
+            read_just_queued: false,
             remote_event: None,
         }
     }
 
-    fn grids(&self) -> [&Grid; 11] {
+    fn grids(&self) -> [&Grid; 14] {
         [
             &self.numbers,
             &self.setup_rows,
             &self.splits,
             &self.out_points,
             &self.in_points,
+            &self.interrupt_points,
+            &self.interrupt_events,
+            &self.poll_refusals,
             &self.remote,
             &self.header_faults,
             &self.later_faults,
@@ -132,7 +165,10 @@ impl Coverage {
             &self.tags,
             &self.ids_refused,
             &self.status_tags,
-            &self.status_bytes,
+            &self.status_tags_busy,
+            &self.bytes_read,
+            &self.bytes_requested,
+            &self.bytes_kept,
             &self.term_chars,
         ]);
         sweeps
@@ -149,7 +185,7 @@ impl Coverage {
         names
     }
 
-    /// The cells that were touched although document 01 does not allow them: the model or a table here is wrong.
+    /// The cells that were touched although the papers do not allow them: the model or a table here is wrong.
     pub fn impossible(&self) -> Vec<String> {
         self.grids().into_iter().flat_map(Grid::impossible).collect()
     }
@@ -197,11 +233,12 @@ impl Coverage {
     pub fn observe(&mut self, before: &Unit, call: &Call, outcome: &Outcome, after: &Unit) {
         let number = NUMBERS.iter().position(|&number| number == outcome.number as u8).unwrap();
         self.numbers.hit(number_row(before, call), number);
-        let event = self.remote_event.take();
         let Some(kind) = Kind::of(before, call) else {
             self.states += 1;
-            if let Some((row, column)) = event {
-                self.remote.hit(row, column);
+            if *call == Call::State {
+                if let Some((row, column)) = self.remote_event.take() {
+                    self.remote.hit(row, column);
+                }
             }
             return;
         };
@@ -211,6 +248,10 @@ impl Coverage {
         if let Some(column) = in_column(before) {
             self.in_points.hit(kind as usize, column);
         }
+        if let Some(column) = interrupt_column(before) {
+            self.interrupt_points.hit(kind as usize, column);
+        }
+        self.observe_interrupt(before, kind, call, outcome, after);
         self.remote_event = remote_event(kind, outcome).map(|column| (remote_row(before), column));
         match call {
             Call::Setup(packet, buffer) => self.observe_setup(before, kind, packet, *buffer, outcome),
@@ -221,6 +262,108 @@ impl Coverage {
             Call::Reset if !before.configured => self.boundary(before, "reset, unconfigured"),
             Call::Suspend if !before.configured => self.boundary(before, "suspend, unconfigured"),
             _ => {}
+        }
+    }
+
+    fn observe_interrupt(&mut self, before: &Unit, kind: Kind, call: &Call, outcome: &Outcome, after: &Unit) {
+        let number = outcome.number as u8;
+        let done = number == 0;
+        for event in interrupt_events(before, kind, outcome, self.origin, after) {
+            let row = INTERRUPT_EVENTS.iter().position(|name| *name == event).expect("the event stands in the table");
+            self.interrupt_events.hit(row, split_column(before));
+        }
+        if let Call::In3(buffer) = call {
+            self.observe_in3(before, *buffer, outcome, after);
+        }
+        let status = match call {
+            Call::Status(status) if done => Some(*status),
+            _ => None,
+        };
+        let asked = status.is_some_and(|status| status & SERVICE != 0);
+        let first = before.waiting.map(|packet| packet[0]);
+        let off = status.is_some() && !asked;
+        let answer = outcome.bytes.as_ref().and_then(|bytes| bytes.first().copied());
+        let cleared = kind == Kind::InitiateClear && answer == Some(0x01);
+        let busy = kind == Kind::ReadStatusByte && answer == Some(0x20);
+        let all_halted = before.out_halted && before.in_halted && before.interrupt_halted;
+        let just_kept = std::mem::replace(
+            &mut self.kept_just_queued,
+            matches!(call, Call::In3(_)) && done && after.waiting.is_some(),
+        );
+        let just_read =
+            std::mem::replace(&mut self.read_just_queued, kind == Kind::ReadStatusByte && answer == Some(0x01));
+        self.boundaries(
+            before,
+            &[
+                (just_kept && kind == Kind::In3 && done, "in3 right after the poll that queued a kept request"),
+                (just_kept && status.is_some(), "status right after the poll that queued a kept request"),
+                (just_kept && busy, "READ_STATUS_BYTE right after the poll that queued a kept request is 20"),
+                (just_kept && cleared, "INITIATE_CLEAR right after the poll that queued a kept request"),
+                (asked && before.request_kept && before.status & SERVICE == 0, "bit 6 on again before the poll"),
+                (
+                    asked && before.status & SERVICE != 0 && status != Some(before.status),
+                    "a kept request with another byte than before",
+                ),
+                (off && first == Some(0x81), "bit 6 off with the packet of a request waiting"),
+                (off && first.is_some_and(|first| first > 0x81), "bit 6 off with the packet of a read waiting"),
+                (off && just_read, "bit 6 off right after a read was queued"),
+                (
+                    busy && before.request_kept && before.status & SERVICE == 0,
+                    "READ_STATUS_BYTE with a request kept and bit 6 off is 20",
+                ),
+                (busy && before.status & SERVICE != 0, "READ_STATUS_BYTE with bit 6 held is 20"),
+                (kind == Kind::In && done && before.interrupt_halted, "in is 0 with 0x83 halted"),
+                (matches!(call, Call::Out(_)) && done && before.interrupt_halted, "out is 0 with 0x83 halted"),
+                (kind == Kind::Take && done && first.is_some(), "take is 0 with a packet waiting"),
+                (kind == Kind::Offer && done && first.is_some(), "offer is 0 with a packet waiting"),
+                (cleared && before.request_kept, "INITIATE_CLEAR with a packet and a kept request is 01"),
+                (cleared && before.interrupt_halted, "INITIATE_CLEAR with 0x83 halted is 01"),
+                (
+                    kind == Kind::CheckClear && answer == Some(0x01) && before.request_kept,
+                    "CHECK_CLEAR_STATUS with a packet and a kept request is 01",
+                ),
+                (kind == Kind::ClearHaltInterrupt && done && all_halted, "CLEAR_FEATURE 0x83 with all three halted"),
+            ],
+        );
+        self.origin = match after.waiting {
+            None => None,
+            Some(_) if matches!(call, Call::In3(_)) && done => Some(Origin::Kept),
+            Some(_) if before.waiting.is_some() => self.origin,
+            Some(_) if kind == Kind::ReadStatusByte => Some(Origin::Read),
+            Some(_) => Some(Origin::Request),
+        };
+    }
+
+    fn observe_in3(&mut self, before: &Unit, buffer: usize, outcome: &Outcome, after: &Unit) {
+        let number = outcome.number as u8;
+        let done = number == 0;
+        count_faults(&mut self.poll_refusals, &poll_refusals(before, buffer), number, &POLL_REFUSALS);
+        let read = self.origin == Some(Origin::Read);
+        let queued = done && after.waiting.is_some();
+        self.boundaries(
+            before,
+            &[
+                (number == 3 && buffer == 0, "in3 buffer 0 is 3"),
+                (number == 3 && buffer == 1, "in3 buffer 1 is 3"),
+                (done && buffer == 2, "in3 buffer 2"),
+                (done && buffer == 3, "in3 buffer 3"),
+                (done && buffer == 64, "in3 buffer 64"),
+                (done && buffer == 2048, "in3 buffer 2,048"),
+                (queued && !read, "in3 brings a request and queues the kept one"),
+                (queued && read, "in3 brings a read and queues the kept request"),
+                (done && before.out_halted && before.in_halted, "in3 brings a packet with both bulk endpoints halted"),
+            ],
+        );
+        if let (true, Some([first, status])) = (done, before.waiting) {
+            let sweep = match self.origin {
+                Some(Origin::Request) => &mut self.bytes_requested,
+                Some(Origin::Kept) => &mut self.bytes_kept,
+                _ => {
+                    self.status_tags.see(usize::from(first) - 0x82);
+                    &mut self.bytes_read
+                }
+            };
+            sweep.see(status_number(status));
         }
     }
 
@@ -268,8 +411,8 @@ impl Coverage {
             let column = match entry.fits(packet) {
                 [true, true, true, true] => match outcome.bytes.as_deref() {
                     None => Some(COLUMN_UNCONFIGURED),
-                    Some([]) => Some(6),
-                    Some([halted, ..]) if entry.name == "GET_STATUS" => Some(7 + usize::from(*halted)),
+                    Some([]) => Some(COLUMN_EMPTY),
+                    Some([halted, ..]) if entry.name == "GET_STATUS" => Some(COLUMN_RUNNING + usize::from(*halted)),
                     Some([status, ..]) => SETUP_COLUMNS.iter().position(|column| *column == format!("{status:02x}")),
                 },
                 [false, true, true, true] => Some(COLUMN_TYPE),
@@ -287,6 +430,16 @@ impl Coverage {
         }
         self.observe_interruption(before, kind);
         let value = u16::from_le_bytes([packet[2], packet[3]]);
+        let index = u16::from_le_bytes([packet[4], packet[5]]);
+        let no_row_but_for_index = |name: &str| {
+            SETUP_ROWS.iter().any(|row| {
+                row.name.starts_with(name) && row.request == packet[1] && row.fits(packet) == [true, true, false, true]
+            })
+        };
+        let by_endpoint = no_row_but_for_index("CLEAR_FEATURE")
+            || no_row_but_for_index("SET_FEATURE")
+            || no_row_but_for_index("GET_STATUS");
+        let at_interrupt = index == INTERRUPT_IN;
         let fits_but_value = |name: &str| {
             SETUP_ROWS.iter().any(|row| {
                 row.name.starts_with(name)
@@ -312,7 +465,11 @@ impl Coverage {
                 (read_status && value == 2, "READ_STATUS_BYTE tag 2"),
                 (read_status && value == 127, "READ_STATUS_BYTE tag 127"),
                 (read_status && value == 128, "READ_STATUS_BYTE tag 128 matches no row"),
-                (kind == Kind::ReadStatusByte && before.status & 0x40 != 0, "READ_STATUS_BYTE with bit 6 set"),
+                (at_interrupt && no_row_but_for_index("INITIATE_ABORT"), "INITIATE_ABORT at 0x83 matches no row"),
+                (at_interrupt && no_row_but_for_index("CHECK_ABORT"), "CHECK_ABORT at 0x83 matches no row"),
+                (by_endpoint && index == 0x03, "feature or status row at 0x03 matches no row"),
+                (by_endpoint && index == 0x183, "feature or status row at 0x183 matches no row"),
+                (by_endpoint && index == 0x84, "feature or status row at 0x84 matches no row"),
                 (
                     kind == Kind::AbortOut && initiated && out_column(before) == 4,
                     "INITIATE_ABORT_BULK_OUT in a later transfer",
@@ -357,10 +514,7 @@ impl Coverage {
                 let packets = if count == 0 { 0 } else { (count as usize + HEADER) / before.packet_size };
                 self.in_counts[size_column(before)].see(packets);
             }
-            (Kind::ReadStatusByte, _) => {
-                self.status_tags.see(usize::from(value) - 2);
-                self.status_bytes.see(usize::from(before.status));
-            }
+            (Kind::ReadStatusByte, _) if status == Some(0x20) => self.status_tags_busy.see(usize::from(value) - 2),
             _ => {}
         }
     }

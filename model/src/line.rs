@@ -1,6 +1,6 @@
 //! The line protocol of `replay`: one call a line, one answer a line.
 
-use crate::unit::{Fault, Message, Number, Remote, Split, Told, Unit, CONTROL_BUFFER, STORE};
+use crate::unit::{Fault, Message, Number, Remote, Split, Told, Unit, CONTROL_BUFFER, NOTIFICATION, STORE};
 use std::io::{BufRead, Write};
 
 /// A longer line, its newline not counted, is skipped to its end and cannot be read.
@@ -17,6 +17,7 @@ pub enum Call {
     Setup(Vec<u8>, usize),
     Out(Vec<u8>),
     In(Option<usize>),
+    In3(usize),
     Take(usize),
     Offer(Vec<u8>),
     Status(u8),
@@ -24,9 +25,10 @@ pub enum Call {
     Reset,
     Suspend,
     State,
+    More,
 }
 
-const CALLS: &str = "power, setup, out, in, take, offer, status, local, reset, suspend or state";
+const CALLS: &str = "power, setup, out, in, in3, take, offer, status, local, reset, suspend, state or more";
 
 impl Call {
     /// Reads a line without its newline. None is a blank line or a comment, which has no answer.
@@ -69,6 +71,10 @@ impl Call {
                 takes(0, 1)?;
                 Call::In(buffer(first)?)
             }
+            b"in3" => {
+                takes(0, 1)?;
+                Call::In3(buffer(first)?.unwrap_or(NOTIFICATION))
+            }
             b"take" => {
                 takes(0, 1)?;
                 Call::Take(buffer(first)?.unwrap_or(STORE))
@@ -84,13 +90,14 @@ impl Call {
                     _ => return Err(format!("{} is no status byte: give two hex digits", shown(first.unwrap()))),
                 }
             }
-            b"local" | b"reset" | b"suspend" | b"state" => {
+            b"local" | b"reset" | b"suspend" | b"state" | b"more" => {
                 takes(0, 0)?;
                 match name {
                     b"local" => Call::Local,
                     b"reset" => Call::Reset,
                     b"suspend" => Call::Suspend,
-                    _ => Call::State,
+                    b"state" => Call::State,
+                    _ => Call::More,
                 }
             }
             _ => return Err(format!("{} is no call: use {CALLS}", shown(name))),
@@ -107,6 +114,8 @@ impl Call {
             Call::Out(packet) => format!("out {}", hex_or_dash(packet)),
             Call::In(None) => "in".to_string(),
             Call::In(Some(buffer)) => format!("in {buffer}"),
+            Call::In3(NOTIFICATION) => "in3".to_string(),
+            Call::In3(buffer) => format!("in3 {buffer}"),
             Call::Take(STORE) => "take".to_string(),
             Call::Take(buffer) => format!("take {buffer}"),
             Call::Offer(reply) => format!("offer {}", hex_or_dash(reply)),
@@ -115,6 +124,7 @@ impl Call {
             Call::Reset => "reset".to_string(),
             Call::Suspend => "suspend".to_string(),
             Call::State => "state".to_string(),
+            Call::More => "more".to_string(),
         }
     }
 }
@@ -176,10 +186,10 @@ pub fn hex_or_dash(bytes: &[u8]) -> String {
 pub struct Outcome {
     pub number: Number,
     pub told: Option<Told>,
-    /// The bytes written, for setup, in and take answered 0.
+    /// The bytes written, for setup, in, in3 and take answered 0.
     pub bytes: Option<Vec<u8>>,
     pub spilled: bool,
-    /// What `state` shows.
+    /// What `state` or `more` shows.
     pub state: Option<String>,
 }
 
@@ -241,6 +251,7 @@ impl Player {
                 let size = size.unwrap_or(self.unit.packet_size);
                 return self.lend(size, |unit, buffer| unit.bulk_in(buffer));
             }
+            Call::In3(size) => return self.lend(*size, |unit, buffer| unit.interrupt_in(buffer)),
             Call::Take(size) => return self.lend(*size, |unit, buffer| unit.take(buffer)),
             Call::Out(packet) => self.unit.bulk_out(packet),
             Call::Offer(reply) => self.unit.offer(reply),
@@ -248,8 +259,8 @@ impl Player {
             Call::Local => self.unit.return_to_local(),
             Call::Reset => self.unit.bus_reset(),
             Call::Suspend => self.unit.suspend(),
-            Call::State => {
-                let state = Some(state(&self.unit));
+            Call::State | Call::More => {
+                let state = Some(if *call == Call::State { state(&self.unit) } else { more(&self.unit) });
                 return Outcome { number: Number::Done, told: None, bytes: None, spilled: false, state };
             }
         };
@@ -267,6 +278,19 @@ impl Player {
     }
 }
 
+fn running(halted: bool) -> &'static str {
+    if halted {
+        "halted"
+    } else {
+        "running"
+    }
+}
+
+fn more(unit: &Unit) -> String {
+    let waiting = unit.waiting.map_or("none".to_string(), |packet| hex_or_dash(&packet));
+    format!("p={} int={waiting} int-endpoint={}", unit.packet_size, running(unit.interrupt_halted))
+}
+
 fn state(unit: &Unit) -> String {
     let remote = match unit.remote {
         Remote::Locs => "LOCS",
@@ -274,7 +298,6 @@ fn state(unit: &Unit) -> String {
         Remote::Lwls => "LWLS",
         Remote::Rwls => "RWLS",
     };
-    let running = |halted: bool| if halted { "halted" } else { "running" };
     let message = match &unit.message {
         Message::None => "none".to_string(),
         Message::Unfinished(bytes) => format!("part:{}", bytes.len()),
@@ -356,10 +379,28 @@ mod tests {
     #[test]
     fn the_answers_of_each_form() {
         let script = b"setup 0009010000000000\r\nout 8001FE000000000000000000 # trigger\n\n  # nothing\n\
-                       setup\ta140000000000100  24\nin\nin 63\nstatus 41\nsetup a180020000000300\ntake 0\nstate";
-        let state = "0 configured=1 ren=0 remote=LOCS status=41 out=running in=running message=none reply=0 \
+                       setup\ta140000000000100  24\nin\nin 63\nin3\nin3 1\nstatus 01\n\
+                       setup a180020000000300\nmore\nin3 3\nmore\ntake 0\nstate";
+        let state = "0 configured=1 ren=0 remote=LOCS status=01 out=running in=running message=none reply=0 \
                      split=none owed=0 tags=01,00";
-        let expected = ["0 -", "0 trigger", "0 pulse 01", "5", "3", "0", "0 010201", "16", state];
+        let waiting = "0 p=64 int=8201 int-endpoint=running";
+        let none = "0 p=64 int=none int-endpoint=running";
+        let expected = [
+            "0 -",
+            "0 trigger",
+            "0 pulse 01",
+            "5",
+            "3",
+            "5",
+            "3",
+            "0",
+            "0 010200",
+            waiting,
+            "0 8201",
+            none,
+            "16",
+            state,
+        ];
         assert_eq!(answers(script), expected);
     }
 
@@ -385,6 +426,11 @@ mod tests {
             "in -",
             "in 2049",
             "in 64 64",
+            "in3 -",
+            "in3 2049",
+            "in3 2 2",
+            "in4",
+            "in 3 2",
             "take 2049",
             "take x",
             "offer",
@@ -400,6 +446,7 @@ mod tests {
             "reset now",
             "suspend 0",
             "state 1",
+            "more 1",
             "out --",
             "POWER 64",
             "64",
@@ -444,6 +491,8 @@ mod tests {
             "out 0102",
             "in",
             "in 64",
+            "in3",
+            "in3 0",
             "take",
             "take 3",
             "offer 41",
@@ -452,6 +501,7 @@ mod tests {
             "reset",
             "suspend",
             "state",
+            "more",
         ] {
             assert_eq!(Call::read(line.as_bytes()).unwrap().unwrap().line(), line);
         }

@@ -1,4 +1,4 @@
-//! An independent model of document 01's unit, and a comparison of it with a program that speaks `replay`'s lines.
+//! An independent model of the unit of documents 01 and 02, and a comparison of it with a program that speaks `replay`'s lines.
 
 // `length % 4 != 0` reads as the paper does.
 #![allow(clippy::manual_is_multiple_of)]
@@ -112,7 +112,7 @@ fn play_scripts(files: &[String]) -> Result<bool, String> {
         text.push_str("every answer is as expected.\n");
     } else {
         text.push_str(&format!(
-            "{} differences. Find the sentence of document 01 that decides each, and put right what breaks it.\n{}\n",
+            "{} differences. Find the sentence of 01 or 02 that decides each, and put right what breaks it.\n{}\n",
             differences.len(),
             differences.join("\n"),
         ));

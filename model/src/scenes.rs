@@ -4,17 +4,17 @@ use crate::calls::HUGE;
 use crate::cells::*;
 use crate::line::{Call, LONGEST_LINE};
 use crate::traffic::Traffic;
-use crate::unit::{Number, Split, BULK_IN, BULK_OUT, HEADER, STORE};
+use crate::unit::{Number, Split, BULK_IN, BULK_OUT, HEADER, INTERRUPT_IN, STORE};
 
 /// Lines that cannot be read, whatever the unit.
 #[rustfmt::skip]
-const UNREADABLE: [&str; 40] = [
+const UNREADABLE: [&str; 47] = [
     "powers 64", "power", "power 64 64", "power 65536", "power 4294967360", "power 18446744073709551680", "power -",
     "power 40h", "power -64", "setup", "setup 0009010000000000 24 24", "setup 0009010000000000 2049",
     "setup 000901000000000", "setup 00090100000000g0", "setup 0009010000000000 -", "out", "out 0", "out 0x01",
     "out 01 01", "out --", "in -", "in 2049", "in 64 64", "in 99999999999999999999", "in p", "take 2049", "take -1",
     "take 1024 1", "offer", "offer 414", "offer 41 42", "offer 4z", "status", "status 4", "status 041", "status -",
-    "local 0", "reset 1", "suspend 1", "state 0",
+    "local 0", "reset 1", "suspend 1", "state 0", "in3 -", "in3 2049", "in3 2 2", "in3 0x2", "in 3 2", "in4", "more 0",
 ];
 
 impl Traffic {
@@ -162,6 +162,7 @@ impl Traffic {
             _ => {
                 self.say_kind(Kind::OutTrigger);
                 self.say_kind(Kind::ReadStatusByte);
+                self.say_kind(Kind::In3);
             }
         }
     }
@@ -650,6 +651,10 @@ impl Traffic {
             self.say_kind(Kind::RenOn);
             self.say_kind(Kind::Status);
         }
+        if self.random.once_in(2) {
+            let column = self.random.below(INTERRUPT_COLUMNS.len());
+            self.reach_interrupt_point(column);
+        }
         if !self.random.once_in(3) {
             let column = self.random.below(11);
             self.reach_in_point(column);
@@ -736,6 +741,185 @@ impl Traffic {
         }
     }
 
+    /// Brings Interrupt-IN of a unit with nothing waiting to a point of the table `call x point of Interrupt-IN`.
+    pub fn reach_interrupt_point(&mut self, column: usize) {
+        let halted = column >= 5;
+        let halted_first = self.random.once_in(2);
+        if halted && halted_first {
+            self.say_kind(Kind::SetHaltInterrupt);
+        }
+        match column % 5 {
+            0 => {}
+            1 => {
+                self.say_kind(Kind::ServiceRequest);
+            }
+            2 => {
+                if self.random.once_in(2) {
+                    self.say_kind(Kind::Status);
+                }
+                self.say_kind(Kind::ReadStatusByte);
+            }
+            point => {
+                self.say_one_of(&[Kind::ServiceRequest, Kind::ReadStatusByte]);
+                self.say_kind(Kind::ServiceRequest);
+                if point == 4 {
+                    self.say_kind(Kind::Status);
+                }
+            }
+        }
+        if halted && !halted_first {
+            self.say_kind(Kind::SetHaltInterrupt);
+        }
+    }
+
+    /// Brings an idle unit to a column of the table `call x split state`.
+    pub fn reach_split(&mut self, column: usize) {
+        match column {
+            0 => {}
+            1 => {
+                self.reach_out_point(2);
+                self.say_kind(Kind::AbortOut);
+            }
+            2 | 3 => {
+                self.reach_in_point(3);
+                self.say_kind(Kind::AbortIn);
+                if column == 3 {
+                    self.say_kind(Kind::In);
+                }
+            }
+            4 => {
+                self.reach_in_point(3);
+                self.say_kind(Kind::InitiateClear);
+            }
+            _ => {
+                self.say_kind(Kind::InitiateClear);
+            }
+        }
+    }
+
+    /// The thermostat sets its status byte and the host polls 0x83, each when it likes.
+    pub fn interrupt_scene(&mut self) {
+        if self.random.once_in(3) {
+            self.fresh();
+        }
+        if self.random.once_in(3) {
+            self.say_kind(Kind::SetHaltOut);
+            self.say_kind(Kind::SetHaltIn);
+        }
+        if self.random.once_in(2) {
+            // The poll that brings a packet queues the request kept behind it.
+            self.say_kind(Kind::ClearHaltInterrupt);
+            self.say_one_of(&[Kind::ServiceRequest, Kind::ReadStatusByte]);
+            self.say_kind(Kind::ServiceRequest);
+            self.say_kind(Kind::In3);
+            self.say_one_of(&[
+                Kind::In3,
+                Kind::ReadStatusByte,
+                Kind::Status,
+                Kind::ServiceRequest,
+                Kind::InitiateClear,
+            ]);
+        }
+        for _ in 0..self.random.between(4, 24) {
+            self.say_one_of(&[
+                Kind::In3,
+                Kind::In3,
+                Kind::In3,
+                Kind::In3,
+                Kind::In3Small,
+                Kind::ServiceRequest,
+                Kind::ServiceRequest,
+                Kind::ServiceRequest,
+                Kind::Status,
+                Kind::Status,
+                Kind::ReadStatusByte,
+                Kind::ReadStatusByte,
+                Kind::ReadStatusByte,
+                Kind::SetHaltInterrupt,
+                Kind::ClearHaltInterrupt,
+                Kind::ClearHaltInterrupt,
+                Kind::GetStatusInterrupt,
+                Kind::InitiateClear,
+                Kind::CheckClear,
+                Kind::ClearHaltOut,
+            ]);
+            if self.random.once_in(10) {
+                self.say_one_of(&[Kind::Suspend, Kind::Configure, Kind::OutMessage, Kind::Offer, Kind::OutRequest]);
+            }
+        }
+        self.say_kind(Kind::ClearHaltInterrupt);
+        self.say_kind(Kind::In3);
+        self.say_kind(Kind::In3);
+        self.tidy();
+    }
+
+    /// What comes to Interrupt-IN in each split, the rarest first.
+    pub fn interrupt_events_scene(&mut self) {
+        for _ in 0..3 {
+            let cells = self.coverage.interrupt_events.rarest();
+            let (row, column) = cells[self.random.below(6)];
+            self.quietly(|traffic| {
+                traffic.fresh();
+                let running = traffic.random.between(1, 4);
+                let any = traffic.random.below(5);
+                let (point, kind) = match INTERRUPT_EVENTS[row] {
+                    "in3 brings a request" => (1, Kind::In3),
+                    "in3 brings a read" => (2, Kind::In3),
+                    "in3 brings a kept request" | "in3 queues the kept request" => (3, Kind::In3),
+                    "in3 ends a kept request, bit 6 off" => (4, Kind::In3),
+                    "in3 is 3" => (any, Kind::In3Small),
+                    "in3 is 4, a packet waits" => (running + 5, Kind::In3),
+                    "in3 is 4, none waits" => (5, Kind::In3),
+                    "in3 is 5" => (0, Kind::In3),
+                    "request queued" => (0, Kind::ServiceRequest),
+                    "request kept" => (traffic.random.between(1, 2), Kind::ServiceRequest),
+                    "request made again" => (traffic.random.pick(&[3, 4, 8, 9]), Kind::ServiceRequest),
+                    "request queued, halted" => (5, Kind::ServiceRequest),
+                    "request kept, halted" => (traffic.random.between(6, 7), Kind::ServiceRequest),
+                    "bit 6 set off, a request kept" => (traffic.random.pick(&[3, 8]), Kind::Status),
+                    "bit 6 off, a packet waits" => (traffic.random.between(1, 2), Kind::Status),
+                    "bit 6 off, none waits" => (0, Kind::Status),
+                    "READ_STATUS_BYTE 01" => (0, Kind::ReadStatusByte),
+                    "READ_STATUS_BYTE 20" => (running, Kind::ReadStatusByte),
+                    "READ_STATUS_BYTE 01, halted" => (5, Kind::ReadStatusByte),
+                    "READ_STATUS_BYTE 20, halted" => (running + 5, Kind::ReadStatusByte),
+                    "SET_FEATURE 0x83" => (any, Kind::SetHaltInterrupt),
+                    "SET_FEATURE 0x83, halted" => (any + 5, Kind::SetHaltInterrupt),
+                    "CLEAR_FEATURE 0x83" => (any, Kind::ClearHaltInterrupt),
+                    "CLEAR_FEATURE 0x83, halted" => (any + 5, Kind::ClearHaltInterrupt),
+                    "GET_STATUS 0x83" => (any, Kind::GetStatusInterrupt),
+                    _ => (any + 5, Kind::GetStatusInterrupt),
+                };
+                let point_first = traffic.random.once_in(2);
+                if point_first {
+                    traffic.reach_interrupt_point(point);
+                }
+                traffic.reach_split(column);
+                if !point_first {
+                    traffic.reach_interrupt_point(point);
+                }
+                traffic.say_kind(kind);
+                traffic.state();
+                // What waits, or was kept, still comes.
+                traffic.say_one_of(&[
+                    Kind::In3,
+                    Kind::In3,
+                    Kind::ReadStatusByte,
+                    Kind::ClearHaltInterrupt,
+                    Kind::InitiateClear,
+                    Kind::Status,
+                ]);
+                traffic.say_kind(Kind::In3);
+                traffic.say_kind(Kind::In3);
+                if traffic.random.once_in(2) {
+                    traffic.stray();
+                }
+                traffic.state();
+            });
+            self.tidy();
+        }
+    }
+
     /// Brings Bulk-OUT of an idle unit to a point of the table `call x point of Bulk-OUT`.
     pub fn reach_out_point(&mut self, column: usize) {
         let p = self.player.unit.packet_size;
@@ -779,6 +963,10 @@ impl Traffic {
                 traffic.fresh();
                 if traffic.random.once_in(4) {
                     traffic.say_kind(Kind::RenOn);
+                }
+                if traffic.random.once_in(2) {
+                    let column = traffic.random.below(INTERRUPT_COLUMNS.len());
+                    traffic.reach_interrupt_point(column);
                 }
                 let column = traffic.random.below(11);
                 traffic.reach_in_point(column);
@@ -864,6 +1052,19 @@ impl Traffic {
             let call = self.setup(name, value, index);
             self.say(call);
         }
+        // Beside the addresses, and 0x83 where no row takes it.
+        let name = self.random.pick(&["CLEAR_FEATURE", "SET_FEATURE", "GET_STATUS"]);
+        let index = self.random.pick(&[0x03, 0x84, 0x183]);
+        let call = self.setup(name, 0, index);
+        self.say(call);
+        let (name, value) = self.random.pick(&[
+            ("INITIATE_ABORT_BULK_OUT", 1),
+            ("INITIATE_ABORT_BULK_IN", 1),
+            ("CHECK_ABORT_BULK_OUT", 0),
+            ("CHECK_ABORT_BULK_IN", 0),
+        ]);
+        let call = self.setup(name, value, INTERRUPT_IN);
+        self.say(call);
         for kind in [Kind::NoRow, Kind::SetupRefused] {
             self.say_kind(kind);
         }
@@ -894,6 +1095,9 @@ impl Traffic {
                 if row == 4 && !remote_first {
                     traffic.transfer(1, true);
                     traffic.take();
+                }
+                if REMOTE_EVENTS[column] == "in3" {
+                    traffic.say_one_of(&[Kind::ServiceRequest, Kind::ReadStatusByte]);
                 }
                 match REMOTE_EVENTS[column] {
                     "MSG_OUT" => {
@@ -936,7 +1140,10 @@ impl Traffic {
                             "CONFIG 0" => Kind::Unconfigure,
                             "CONFIG 1" => Kind::Configure,
                             "CLEAR" => Kind::InitiateClear,
-                            _ => Kind::Status,
+                            "READ_STATUS" => Kind::ReadStatusByte,
+                            "in3" => Kind::In3,
+                            "0x83 halt" => traffic.random.pick(&[Kind::SetHaltInterrupt, Kind::ClearHaltInterrupt]),
+                            _ => traffic.random.pick(&[Kind::Status, Kind::ServiceRequest]),
                         };
                         if let Some(call) = traffic.make(kind) {
                             traffic.send(call);
@@ -1012,8 +1219,10 @@ impl Traffic {
             self.offer(size);
             self.say_kind(Kind::Status);
             self.say_kind(Kind::ReadStatusByte);
-            self.say_kind(Kind::Status);
+            self.say_kind(Kind::In3);
+            self.say_kind(Kind::ServiceRequest);
             self.say_kind(Kind::ReadStatusByte);
+            self.say_kind(Kind::In3);
             self.say_kind(Kind::Local);
             self.tidy();
         }

@@ -5,7 +5,7 @@
 //! The other program gets the same lines later, in blocks.
 
 use crate::calls::REFUSED_SIZES;
-use crate::cells::{in_column, out_column, split_column, Kind, KINDS};
+use crate::cells::{in_column, interrupt_column, out_column, split_column, Kind, KINDS};
 use crate::coverage::Coverage;
 use crate::line::{Call, Player, LONGEST_LINE};
 use crate::random::Random;
@@ -95,14 +95,20 @@ impl Traffic {
             2 => format!("{line} # a comment"),
             3 => format!("{line}\r"),
             4 if line == "in" => format!("in {}", self.player.unit.packet_size),
+            4 if line == "in3" => "in3 2".to_string(),
             4 if line == "take" => format!("take {STORE}"),
             4 if line.starts_with("setup ") && line.matches(' ').count() == 1 => format!("{line} {CONTROL_BUFFER}"),
             _ => line,
         }
     }
 
+    /// `state`, and `more` with every third, or where Interrupt-IN has something to show.
     pub fn state(&mut self) {
         self.send(Call::State);
+        let unit = &self.player.unit;
+        if unit.waiting.is_some() || unit.interrupt_halted || self.random.once_in(3) {
+            self.send(Call::More);
+        }
     }
 
     /// Sends a call of a scene: a stray one may come before it, and `state` follows about every fourth.
@@ -145,6 +151,7 @@ impl Traffic {
         }
         let unit = &self.player.unit;
         let (split, out, into) = (split_column(unit), out_column(unit), in_column(unit));
+        let interrupt = interrupt_column(unit);
         let start = self.random.below(KINDS.len());
         let mut best = (u64::MAX, Kind::In);
         for step in 0..KINDS.len() {
@@ -155,6 +162,9 @@ impl Traffic {
                 count = self.coverage.splits.count(row, split).min(self.coverage.out_points.count(row, out));
                 if let Some(into) = into {
                     count = count.min(self.coverage.in_points.count(row, into));
+                }
+                if let Some(interrupt) = interrupt {
+                    count = count.min(self.coverage.interrupt_points.count(row, interrupt));
                 }
             }
             if count < best.0 {
@@ -187,7 +197,7 @@ impl Traffic {
         if !self.random.once_in(6) {
             self.tidy();
         }
-        match self.random.below(100) {
+        match self.random.below(108) {
             0..=6 => self.host_scene(),
             7..=14 => self.message_sizes_scene(),
             15..=22 => self.reply_sizes_scene(),
@@ -207,7 +217,9 @@ impl Traffic {
             90..=93 => self.thermostat_scene(),
             94 => self.lines_scene(),
             95..=96 => self.unconfigured_scene(),
-            _ => self.wander_scene(),
+            97..=99 => self.wander_scene(),
+            100..=103 => self.interrupt_scene(),
+            _ => self.interrupt_events_scene(),
         }
     }
 }

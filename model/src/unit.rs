@@ -1,6 +1,6 @@
-//! The unit of document 01: power-on and the nine calls.
+//! The unit of document 01 and of request 1 of document 02: power-on and the ten calls.
 //!
-//! Written from the paper and the readings of it, and from nothing else. Words in quotation marks are the paper's.
+//! Written from the papers and the readings of them, and from nothing else. Words in quotation marks are the papers'.
 //! No call makes a unit unsound, so nothing here answers 1; `sound` is there to try that.
 
 /// "a message store of 1,024 bytes .. and a reply store of the same size"
@@ -8,6 +8,12 @@ pub const STORE: usize = 1024;
 /// "with Bulk-OUT at endpoint 0x01 and Bulk-IN at 0x82", as wIndex gives them
 pub const BULK_OUT: u16 = 0x01;
 pub const BULK_IN: u16 = 0x82;
+/// "Add endpoint 0x83" (02, 1)
+pub const INTERRUPT_IN: u16 = 0x83;
+/// bNotify1 and bNotify2 (001, tables 6 and 7)
+pub const NOTIFICATION: usize = 2;
+/// Bit 6 of the status byte, RQS in 001
+pub const SERVICE: u8 = 0x40;
 /// "A header is 12 bytes"
 pub const HEADER: usize = 12;
 /// "control buffer under 24" is refused, for every setup packet
@@ -140,16 +146,28 @@ pub enum Fault {
     TagKeptOverClear,
     /// A halt of Bulk-OUT drops the open transfer, but not the unfinished message, nor does the end of the halt.
     HalfKeptAfterHalt,
+    /// A service request that is made while a packet waits is not kept.
+    KeptRequestLost,
+    /// A status byte with bit 6 off takes back the packet of the service request before it.
+    PacketWithdrawn,
 }
 
 impl Fault {
-    pub const ALL: [Fault; 3] = [Fault::LengthOffByOne, Fault::TagKeptOverClear, Fault::HalfKeptAfterHalt];
+    pub const ALL: [Fault; 5] = [
+        Fault::LengthOffByOne,
+        Fault::TagKeptOverClear,
+        Fault::HalfKeptAfterHalt,
+        Fault::KeptRequestLost,
+        Fault::PacketWithdrawn,
+    ];
 
     pub fn name(self) -> &'static str {
         match self {
             Fault::LengthOffByOne => "length-off-by-one",
             Fault::TagKeptOverClear => "tag-kept-over-clear",
             Fault::HalfKeptAfterHalt => "half-kept-after-halt",
+            Fault::KeptRequestLost => "kept-request-lost",
+            Fault::PacketWithdrawn => "packet-withdrawn",
         }
     }
 
@@ -168,6 +186,11 @@ pub struct Unit {
     pub status: u8,
     pub out_halted: bool,
     pub in_halted: bool,
+    pub interrupt_halted: bool,
+    /// "One packet waits at a time."
+    pub waiting: Option<[u8; NOTIFICATION]>,
+    /// "While it waits, .. a service request is kept". It ends when the packet is polled, whatever is set until then.
+    pub request_kept: bool,
     pub message: Message,
     pub reply: Option<Reply>,
     pub out_transfer: Option<OutTransfer>,
@@ -201,6 +224,9 @@ impl Unit {
             status: 0,
             out_halted: false,
             in_halted: false,
+            interrupt_halted: false,
+            waiting: None,
+            request_kept: false,
             message: Message::None,
             reply: None,
             out_transfer: None,
@@ -213,7 +239,8 @@ impl Unit {
         }
     }
 
-    /// SET_CONFIGURATION: "all but P as at power-on, 1 configured, 0 not"
+    /// SET_CONFIGURATION: "all but P as at power-on, 1 configured, 0 not". So what waits or is kept for 0x83 goes, and
+    /// its halt.
     fn configure(&mut self, configured: bool) {
         *self = Unit { configured, fault: self.fault, ..Unit::fresh(self.packet_size) };
     }
@@ -252,7 +279,8 @@ impl Unit {
 // "The team writes down when a unit is sound. Power-on is sound, every call keeps it so"
 impl Unit {
     pub fn sound(&self) -> bool {
-        self.stores_sound() && self.out_sound() && self.in_sound() && self.split_sound() && self.rest_sound()
+        let endpoints = self.out_sound() && self.in_sound() && self.interrupt_sound();
+        self.stores_sound() && endpoints && self.split_sound() && self.rest_sound()
     }
 
     /// Nothing is stored that is empty or passes its store.
@@ -300,6 +328,18 @@ impl Unit {
                 full_packets && left.is_some_and(|left| due <= left && (due == left) == sending.all_that_is_left)
             }
         }
+    }
+
+    /// What waits is a service request, whose byte has bit 6 on, or what READ_STATUS_BYTE asked for, whose byte has not.
+    /// A request is kept only while a packet waits, and bit 6 is held only while a request is kept.
+    fn interrupt_sound(&self) -> bool {
+        let waiting = match self.waiting {
+            None => !self.request_kept,
+            Some([0x81, status]) => status & SERVICE != 0,
+            Some([0x82..=0xFF, status]) => status & SERVICE == 0,
+            Some(_) => false,
+        };
+        waiting && (self.request_kept || self.status & SERVICE == 0)
     }
 
     fn split_sound(&self) -> bool {
@@ -569,6 +609,48 @@ fn first_packet(transfer: &InTransfer, left: &[u8]) -> (usize, u8) {
     (n, u8::from(all_that_is_left) | u8::from(ends_in_term_char) << 1)
 }
 
+// Interrupt-IN.
+impl Unit {
+    /// The Interrupt-IN poll: "polling 0x83 goes 1, 2, 3 (buffer under 2), 4 halted, 5 empty".
+    pub fn interrupt_in(&mut self, buffer: &mut [u8]) -> Answer {
+        if !self.configured {
+            return Answer::refused(Number::NotConfigured);
+        }
+        if buffer.len() < NOTIFICATION {
+            return Answer::refused(Number::WrongSize);
+        }
+        if self.interrupt_halted {
+            return Answer::refused(Number::Halted);
+        }
+        let Some(packet) = self.waiting.take() else {
+            return Answer::refused(Number::Wait);
+        };
+        // "if bit 6 is still on when the packet is polled, the status byte then held is queued; the kept request ends
+        // either way"
+        if std::mem::replace(&mut self.request_kept, false) && self.status & SERVICE != 0 {
+            self.queue_service_request();
+        }
+        Answer::written(buffer, &packet)
+    }
+
+    /// "a service request, which sends 0x81 and the status byte, and clears bit 6 once queued". The packet has bit 6 on
+    /// (001, 3.4.1).
+    fn queue_service_request(&mut self) {
+        self.waiting = Some([0x81, self.status]);
+        self.status &= !SERVICE;
+    }
+
+    /// "READ_STATUS_BYTE queues its tag with the top bit set and the status byte, and answers 0x00 in its third byte."
+    /// While a packet waits it "gets status 0x20". The second byte is the tag both times (001, table 13).
+    fn read_status_byte(&mut self, tag: u8) -> [u8; 3] {
+        if self.waiting.is_some() {
+            return [INTERRUPT_IN_BUSY, tag, 0];
+        }
+        self.waiting = Some([0x80 | tag, self.status]);
+        [SUCCESS, tag, 0]
+    }
+}
+
 // The thermostat's calls.
 impl Unit {
     /// Take a message. "Take: 1, 2, 16, 3."
@@ -602,12 +684,22 @@ impl Unit {
         Answer::done()
     }
 
-    /// Set the status byte: it is stored whole. "Panel and set status: 1, 2."
+    /// Set the status byte: it is stored whole. "Panel and set status: 1, 2." With bit 6 on it "is a service request".
     pub fn set_status(&mut self, status: u8) -> Answer {
         if !self.configured {
             return Answer::refused(Number::NotConfigured);
         }
         self.status = status;
+        match self.waiting {
+            None if status & SERVICE != 0 => self.queue_service_request(),
+            Some(_) if status & SERVICE != 0 && self.fault == Some(Fault::KeptRequestLost) => self.status &= !SERVICE,
+            Some(_) if status & SERVICE != 0 => self.request_kept = true,
+            Some([0x81, _]) if self.fault == Some(Fault::PacketWithdrawn) => {
+                self.waiting = None;
+                self.request_kept = false;
+            }
+            _ => {}
+        }
         Answer::done()
     }
 
@@ -676,31 +768,38 @@ impl Unit {
 /// "Statuses: 01 SUCCESS, 02 PENDING, 80 FAILED, .."
 const SUCCESS: u8 = 0x01;
 const PENDING: u8 = 0x02;
+/// STATUS_INTERRUPT_IN_BUSY, "status 0x20"
+const INTERRUPT_IN_BUSY: u8 = 0x20;
 const FAILED: u8 = 0x80;
 const TRANSFER_NOT_IN_PROGRESS: u8 = 0x81;
 const SPLIT_NOT_IN_PROGRESS: u8 = 0x82;
 const SPLIT_IN_PROGRESS: u8 = 0x83;
 
+/// "By endpoint": "feature .. and status rows take 0x83", abort rows do not.
 #[derive(Clone, Copy, PartialEq, Eq)]
 enum Endpoint {
     Out,
     In,
+    Interrupt,
 }
 
 impl Endpoint {
-    fn at(index: u16) -> Endpoint {
-        if index == BULK_OUT {
-            Endpoint::Out
-        } else {
-            Endpoint::In
+    fn at(index: u16) -> Option<Endpoint> {
+        match index {
+            BULK_OUT => Some(Endpoint::Out),
+            BULK_IN => Some(Endpoint::In),
+            INTERRUPT_IN => Some(Endpoint::Interrupt),
+            _ => None,
         }
     }
 }
 
 /// A setup packet that matches a row.
 enum Row {
-    InitiateAbort(Endpoint, u8),
-    CheckAbort(Endpoint),
+    InitiateAbortOut(u8),
+    InitiateAbortIn(u8),
+    CheckAbortOut,
+    CheckAbortIn,
     InitiateClear,
     CheckClear,
     GetCapabilities,
@@ -721,10 +820,10 @@ impl Row {
         let word = |at: usize| u16::from_le_bytes([packet[at], packet[at + 1]]);
         let (value, index, length) = (word(2), word(4), word(6));
         Some(match (packet[0], packet[1], value, index, length) {
-            (0xA2, 1, 1..=255, BULK_OUT, 2) => Row::InitiateAbort(Endpoint::Out, value as u8),
-            (0xA2, 3, 1..=255, BULK_IN, 2) => Row::InitiateAbort(Endpoint::In, value as u8),
-            (0xA2, 2, 0, BULK_OUT, 8) => Row::CheckAbort(Endpoint::Out),
-            (0xA2, 4, 0, BULK_IN, 8) => Row::CheckAbort(Endpoint::In),
+            (0xA2, 1, 1..=255, BULK_OUT, 2) => Row::InitiateAbortOut(value as u8),
+            (0xA2, 3, 1..=255, BULK_IN, 2) => Row::InitiateAbortIn(value as u8),
+            (0xA2, 2, 0, BULK_OUT, 8) => Row::CheckAbortOut,
+            (0xA2, 4, 0, BULK_IN, 8) => Row::CheckAbortIn,
             (0xA1, 5, 0, 0, 1) => Row::InitiateClear,
             (0xA1, 6, 0, 0, 2) => Row::CheckClear,
             (0xA1, 7, 0, 0, 24) => Row::GetCapabilities,
@@ -733,9 +832,9 @@ impl Row {
             (0xA1, 160, 0 | 1, 0, 1) => Row::RenControl(value == 1),
             (0xA1, 161, 0, 0, 1) => Row::GoToLocal,
             (0xA1, 162, 0, 0, 1) => Row::LocalLockout,
-            (0x02, 1, 0, BULK_OUT | BULK_IN, 0) => Row::ClearHalt(Endpoint::at(index)),
-            (0x02, 3, 0, BULK_OUT | BULK_IN, 0) => Row::SetHalt(Endpoint::at(index)),
-            (0x82, 0, 0, BULK_OUT | BULK_IN, 2) => Row::GetStatus(Endpoint::at(index)),
+            (0x02, 1, 0, _, 0) => Row::ClearHalt(Endpoint::at(index)?),
+            (0x02, 3, 0, _, 0) => Row::SetHalt(Endpoint::at(index)?),
+            (0x82, 0, 0, _, 2) => Row::GetStatus(Endpoint::at(index)?),
             (0x00, 9, 0 | 1, 0, 0) => Row::SetConfiguration(value == 1),
             _ => return None,
         })
@@ -755,15 +854,15 @@ impl Unit {
             _ => return Answer::refused(Number::NoRow),
         };
         match row {
-            Row::InitiateAbort(Endpoint::Out, tag) => Answer::written(buffer, &self.initiate_abort_out(tag)),
-            Row::InitiateAbort(Endpoint::In, tag) => Answer::written(buffer, &self.initiate_abort_in(tag)),
-            Row::CheckAbort(endpoint) => Answer::written(buffer, &self.check_abort(endpoint)),
+            Row::InitiateAbortOut(tag) => Answer::written(buffer, &self.initiate_abort_out(tag)),
+            Row::InitiateAbortIn(tag) => Answer::written(buffer, &self.initiate_abort_in(tag)),
+            Row::CheckAbortOut => Answer::written(buffer, &self.check_abort_out()),
+            Row::CheckAbortIn => Answer::written(buffer, &self.check_abort_in()),
             Row::InitiateClear => Answer::written(buffer, &[self.initiate_clear()]),
             Row::CheckClear => Answer::written(buffer, &self.check_clear()),
             Row::GetCapabilities => Answer::written(buffer, &CAPABILITIES),
             Row::IndicatorPulse => Answer { told: Some(Told::Pulse), ..Answer::written(buffer, &[SUCCESS]) },
-            // "01, tag, status byte with bit 6 cleared"
-            Row::ReadStatusByte(tag) => Answer::written(buffer, &[SUCCESS, tag, self.status & !0x40]),
+            Row::ReadStatusByte(tag) => Answer::written(buffer, &self.read_status_byte(tag)),
             Row::RenControl(on) => {
                 if on {
                     self.ren = true;
@@ -793,9 +892,15 @@ impl Unit {
                 self.in_halted = true;
                 Answer::written(buffer, &[])
             }
+            // "dropping no packet"
+            Row::SetHalt(Endpoint::Interrupt) => {
+                self.interrupt_halted = true;
+                Answer::written(buffer, &[])
+            }
             // "1 if halted else 0, then 0"
             Row::GetStatus(Endpoint::Out) => Answer::written(buffer, &[u8::from(self.out_halted), 0]),
             Row::GetStatus(Endpoint::In) => Answer::written(buffer, &[u8::from(self.in_halted), 0]),
+            Row::GetStatus(Endpoint::Interrupt) => Answer::written(buffer, &[u8::from(self.interrupt_halted), 0]),
             Row::SetConfiguration(configured) => {
                 self.configure(configured);
                 Answer::written(buffer, &[])
@@ -842,25 +947,33 @@ impl Unit {
         }
     }
 
-    /// "status, D0, 0, 0, count (4)", the count "given only with 01, else 0"
-    fn check_abort(&mut self, endpoint: Endpoint) -> [u8; 8] {
-        let (status, d0, count) = match (endpoint, self.split) {
-            (Endpoint::Out, Split::AbortOut { count }) => (SUCCESS, 0, count),
-            // "CHECK of abort-IN or clear is 02 with D0 = 1 while that packet is owed."
-            (Endpoint::In, Split::AbortIn { .. }) if self.packet_owed => (PENDING, 1, 0),
-            (Endpoint::In, Split::AbortIn { count }) => (SUCCESS, 0, count),
+    fn check_abort_out(&mut self) -> [u8; 8] {
+        match self.split {
+            Split::AbortOut { count } => self.aborted(count),
             // "CHECK of the wrong split is 82 with D0 = 0."
-            _ => (SPLIT_NOT_IN_PROGRESS, 0, 0),
-        };
-        // "Otherwise 01 with D0 = 0, and the split ends."
-        if status == SUCCESS {
-            self.split = Split::None;
+            _ => [SPLIT_NOT_IN_PROGRESS, 0, 0, 0, 0, 0, 0, 0],
         }
-        let [c0, c1, c2, c3] = count.to_le_bytes();
-        [status, d0, 0, 0, c0, c1, c2, c3]
     }
 
-    /// "INITIATE_CLEAR is 83 during a clear; otherwise 01"
+    fn check_abort_in(&mut self) -> [u8; 8] {
+        match self.split {
+            // "CHECK of abort-IN or clear is 02 with D0 = 1 while that packet is owed."
+            Split::AbortIn { .. } if self.packet_owed => [PENDING, 1, 0, 0, 0, 0, 0, 0],
+            Split::AbortIn { count } => self.aborted(count),
+            _ => [SPLIT_NOT_IN_PROGRESS, 0, 0, 0, 0, 0, 0, 0],
+        }
+    }
+
+    /// "Otherwise 01 with D0 = 0, and the split ends": "status, D0, 0, 0, count (4)", the count "given only with 01, else
+    /// 0".
+    fn aborted(&mut self, count: u32) -> [u8; 8] {
+        self.split = Split::None;
+        let [c0, c1, c2, c3] = count.to_le_bytes();
+        [SUCCESS, 0, 0, 0, c0, c1, c2, c3]
+    }
+
+    /// "INITIATE_CLEAR is 83 during a clear; otherwise 01". What it does not name survives: "REN, remote/local state,
+    /// status byte, Bulk-IN halt", and "The waiting packet, the kept request and the halt of 0x83".
     fn initiate_clear(&mut self) -> u8 {
         if self.split == Split::Clear {
             return SPLIT_IN_PROGRESS;
@@ -912,15 +1025,52 @@ impl Unit {
                 self.in_transfer = None;
                 self.packet_owed = false;
             }
+            // The halt alone, in any split: "dropping no packet".
+            Endpoint::Interrupt => self.interrupt_halted = false,
         }
     }
 }
 
-/// "24: 01 00 00 01 04 01, six 0, 00 01 03 03, eight 0"
+/// "24: 01 00 00 01 04 01, six 0, 00 01 03 03, eight 0", and "Capabilities gain SR1": bit D2 of the last of the four
 #[rustfmt::skip]
 const CAPABILITIES: [u8; 24] = [
     0x01, 0x00, 0x00, 0x01, 0x04, 0x01,
     0, 0, 0, 0, 0, 0,
-    0x00, 0x01, 0x03, 0x03,
+    0x00, 0x01, 0x03, 0x07,
     0, 0, 0, 0, 0, 0, 0, 0,
 ];
+
+#[cfg(test)]
+mod tests {
+    use super::*;
+
+    /// Interrupt-IN as no calls leave it, beside the nearest that calls do leave.
+    #[test]
+    fn what_waits_and_what_is_kept_agree() {
+        for (waiting, request_kept, status, sound) in [
+            (None, false, 0xBF, true),
+            (None, false, 0x40, false),
+            (None, true, 0x00, false),
+            (None, true, 0x40, false),
+            (Some([0x81, 0x40]), false, 0x00, true),
+            (Some([0x81, 0x40]), false, 0x40, false),
+            (Some([0x81, 0x40]), true, 0x40, true),
+            (Some([0x81, 0x40]), true, 0x00, true),
+            (Some([0x81, 0xBF]), false, 0x00, false),
+            (Some([0x82, 0xBF]), false, 0x00, true),
+            (Some([0x82, 0x40]), false, 0x00, false),
+            (Some([0xFF, 0x00]), true, 0xFF, true),
+            (Some([0xFF, 0x40]), false, 0x00, false),
+            (Some([0x80, 0x00]), false, 0x00, false),
+            (Some([0x7F, 0x40]), false, 0x00, false),
+            (Some([0x00, 0x00]), false, 0x00, false),
+        ] {
+            let (mut unit, _) = Unit::power_on(64);
+            unit.configure(true);
+            let unit = Unit { waiting, request_kept, status, interrupt_halted: true, ..unit };
+            assert_eq!(unit.sound(), sound, "{waiting:02x?} {request_kept} {status:02x}");
+            let unconfigured = Unit { configured: false, ..unit };
+            assert!(!unconfigured.sound());
+        }
+    }
+}

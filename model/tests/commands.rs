@@ -77,7 +77,9 @@ fn the_model_is_the_same_as_itself() {
 
 #[test]
 fn each_fault_is_found() {
-    for fault in ["length-off-by-one", "tag-kept-over-clear", "half-kept-after-halt"] {
+    for fault in
+        ["length-off-by-one", "tag-kept-over-clear", "half-kept-after-halt", "kept-request-lost", "packet-withdrawn"]
+    {
         let output = model(&["compare", "--seconds", "60", "--program", MODEL, "play", "--fault", fault]);
         let told = text(&output.stdout);
         assert_eq!(output.status.code(), Some(1), "{fault}: {told}");

@@ -11,7 +11,6 @@ static void to_plain(struct plain_unit *plain, const struct tmc_unit *unit)
     plain->packet_size = unit->packet;
     plain->configured = unit->configured;
     plain->ren = unit->ren;
-    plain->status = unit->status;
     plain->remote = unit->remote;
     plain->out_held = unit->out_held;
     plain->out_ready = unit->out_ready;
@@ -31,6 +30,10 @@ static void to_plain(struct plain_unit *plain, const struct tmc_unit *unit)
     plain->in_term = unit->in_term;
     plain->in_halted = unit->in_halted;
     plain->in_recent = unit->in_recent;
+    plain->status = unit->status;
+    plain->notify1 = unit->notify1;
+    plain->notify2 = unit->notify2;
+    plain->interrupt_halted = unit->interrupt_halted;
     plain->split_count = unit->count;
     plain->split = unit->split;
 }
@@ -42,7 +45,6 @@ static void from_plain(struct tmc_unit *unit, const struct plain_unit *plain)
     unit->packet = plain->packet_size;
     unit->configured = plain->configured;
     unit->ren = plain->ren;
-    unit->status = plain->status;
     unit->remote = plain->remote;
     unit->out_held = plain->out_held;
     unit->out_ready = plain->out_ready;
@@ -62,9 +64,12 @@ static void from_plain(struct tmc_unit *unit, const struct plain_unit *plain)
     unit->in_term = plain->in_term;
     unit->in_halted = plain->in_halted;
     unit->in_recent = plain->in_recent;
+    unit->status = plain->status;
+    unit->notify1 = plain->notify1;
+    unit->notify2 = plain->notify2;
+    unit->interrupt_halted = plain->interrupt_halted;
     unit->count = plain->split_count;
     unit->split = plain->split;
-    unit->zero = 0;
 }
 
 /* The answer of a call that has nothing but a number. */
@@ -85,6 +90,8 @@ static struct plain_answer played(struct plain_unit *plain, const struct call *c
         return plain_packet(plain, call->bytes, call->length);
     case BULK_IN:
         return plain_poll(plain, buffer, call->room);
+    case INTERRUPT_IN:
+        return plain_interrupt_poll(plain, buffer, call->room);
     case TAKE:
         return plain_take(plain, buffer, call->room);
     case OFFER:
@@ -102,19 +109,15 @@ static struct plain_answer played(struct plain_unit *plain, const struct call *c
 
 struct tmc_answer expected(struct tmc_unit *unit, const struct call *call, uint8_t *buffer)
 {
-    struct tmc_answer answer = {TMC_NUMBER_UNSOUND, TMC_TELLS_NOTHING, 0};
+    struct tmc_answer answer;
     struct plain_unit plain;
     struct plain_answer given;
 
-    /* plain.c has no such field. */
-    if (unit->zero != 0 && call->kind != POWER_ON)
-        return answer;
     to_plain(&plain, unit);
     given = played(&plain, call, buffer);
     answer.number = given.number;
     answer.tells = given.tells;
     answer.length = given.length;
-    if (given.number != TMC_NUMBER_UNSOUND)
-        from_plain(unit, &plain);
+    from_plain(unit, &plain);
     return answer;
 }

@@ -13,13 +13,14 @@
 /* What a live unit shows. */
 enum mark {
     IS_UNCONFIGURED, OUT_OPEN, PART_HELD, MESSAGE_READY, OUT_HALTED, IN_HALTED, IN_ASKED, IN_SENDING, IN_OWED, REPLY_WHOLE, REPLY_IN_PART,
-    IN_ABORT_OUT, IN_ABORT_IN, IN_CLEAR, IN_LOCS, IN_REMS, IN_LWLS, IN_RWLS, MARKS
+    INTERRUPT_HALTED, SERVICE_WAITS, STATUS_WAITS, SERVICE_KEPT, IN_ABORT_OUT, IN_ABORT_IN, IN_CLEAR, IN_LOCS, IN_REMS, IN_LWLS, IN_RWLS,
+    MARKS
 };
 
 static const char *const mark_names[MARKS] = {
     "unconfigured", "OUT transfer open", "message in part", "message ready", "Bulk-OUT halted", "Bulk-IN halted", "IN transfer asked",
-    "IN transfer on its way", "empty packet owed", "whole reply", "reply in part", "abort-OUT", "abort-IN", "clear", "LOCS", "REMS", "LWLS",
-    "RWLS"
+    "IN transfer on its way", "empty packet owed", "whole reply", "reply in part", "Interrupt-IN halted", "service request waits",
+    "status byte waits", "service request kept", "abort-OUT", "abort-IN", "clear", "LOCS", "REMS", "LWLS", "RWLS"
 };
 
 /* The live units that were met, by their small state. */
@@ -79,6 +80,14 @@ static bool shows(const struct tmc_unit *unit, enum mark mark)
         return unit->in_unsent != 0 && unit->in_at == 0;
     case REPLY_IN_PART:
         return unit->in_unsent != 0 && unit->in_at != 0;
+    case INTERRUPT_HALTED:
+        return unit->interrupt_halted;
+    case SERVICE_WAITS:
+        return unit->notify1 == 0x81;
+    case STATUS_WAITS:
+        return unit->notify1 > 0x81;
+    case SERVICE_KEPT:
+        return (unit->status & 0x40) != 0;
     case IN_ABORT_OUT:
     case IN_ABORT_IN:
     case IN_CLEAR:
@@ -174,6 +183,19 @@ static void each_number(struct test *test)
     }
 }
 
+/* Every first byte of a packet of Interrupt-IN, with limits of what stands beside it, each before one call. */
+static void each_packet(struct test *test)
+{
+    unsigned first = below(&test->chance, KINDS);
+    unsigned which;
+
+    for (which = 0; which < PACKETS; which++) {
+        struct tmc_unit unit = test->live;
+        set_packet(&unit, which);
+        try_one(test, &unit, (enum kind)((first + which) % KINDS));
+    }
+}
+
 /* Every byte of both stores, another value in it before one call: no call may take that for a fault. */
 static void each_store_byte(struct test *test)
 {
@@ -241,6 +263,7 @@ static void overwrite(struct test *test)
             make_call(&test->chance, (enum kind)kind, &test->live, &test->calls[kind][variant]);
     each_byte(test);
     each_number(test);
+    each_packet(test);
     each_store_byte(test);
     several_fields(test);
     plausible_units(test);
@@ -272,15 +295,15 @@ static bool report_numbers(const struct trials *trials)
 
     printf("answers:");
     for (kind = 0; kind < KINDS; kind++)
-        printf(" %10s", kind_names[kind]);
+        printf(" %*s", NAME_WIDTH, kind_names[kind]);
     printf("\n");
     for (number = 0; number < NUMBERS; number++) {
         printf("%7u ", number);
         for (kind = 0; kind < KINDS; kind++) {
             if (can_come((enum kind)kind, number))
-                printf(" %10llu", (unsigned long long)trials->answered[kind][number]);
+                printf(" %*llu", NAME_WIDTH, (unsigned long long)trials->answered[kind][number]);
             else
-                printf(" %10s", ".");
+                printf(" %*s", NAME_WIDTH, ".");
             all_came = all_came && (!can_come((enum kind)kind, number) || trials->answered[kind][number] != 0);
         }
         printf("\n");

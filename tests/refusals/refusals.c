@@ -36,7 +36,7 @@ static const struct asking askings[] = {
     {"CHECK_CLEAR_STATUS, PENDING", 0xA1, 6, TMC_STATUS_PENDING},
     {"GET_CAPABILITIES", 0xA1, 7, ANY},
     {"INDICATOR_PULSE", 0xA1, 64, ANY},
-    {"READ_STATUS_BYTE", 0xA1, 128, ANY},
+    {"READ_STATUS_BYTE, 20", 0xA1, 128, TMC_STATUS_INTERRUPT_IN_BUSY},
     {"GET_STATUS", 0x82, 0, ANY},
 };
 #define ASKINGS (sizeof askings / sizeof askings[0])
@@ -222,7 +222,7 @@ static bool report_refused(const struct test *test)
 
     printf("refused:");
     for (kind = SETUP; kind < KINDS; kind++)
-        printf(" %10s", kind_names[kind]);
+        printf(" %*s", NAME_WIDTH, kind_names[kind]);
     printf("\n");
     for (number = 0; number < NUMBERS; number++) {
         if (!is_refusal(SETUP, number))
@@ -230,9 +230,9 @@ static bool report_refused(const struct test *test)
         printf("%7u ", number);
         for (kind = SETUP; kind < KINDS; kind++) {
             if (can_come((enum kind)kind, number))
-                printf(" %10llu", (unsigned long long)test->refused[kind][number]);
+                printf(" %*llu", NAME_WIDTH, (unsigned long long)test->refused[kind][number]);
             else
-                printf(" %10s", ".");
+                printf(" %*s", NAME_WIDTH, ".");
             all_met = all_met && (!can_come((enum kind)kind, number) || test->refused[kind][number] != 0);
         }
         printf("\n");

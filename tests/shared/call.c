@@ -2,7 +2,7 @@
 
 #include <string.h>
 
-const char *const kind_names[KINDS] = {"power_on", "setup",      "bulk_out", "bulk_in",   "take",
+const char *const kind_names[KINDS] = {"power_on", "setup",      "bulk_out", "bulk_in",   "interrupt_in", "take",
                                        "offer",    "set_status", "panel",    "bus_reset", "suspend"};
 
 #define COUNT(array) (sizeof(array) / sizeof(array)[0])
@@ -51,7 +51,8 @@ static const struct row rows[] = {
     {0xA1, 5, 0, 0, 1},      {0xA1, 6, 0, 0, 2},      {0xA1, 7, 0, 0, 24},     {0xA1, 64, 0, 0, 1},    {0xA1, 128, 2, 0, 3},
     {0xA1, 128, 127, 0, 3},  {0xA1, 160, 1, 0, 1},    {0xA1, 160, 1, 0, 1},    {0xA1, 160, 0, 0, 1},   {0xA1, 161, 0, 0, 1},
     {0xA1, 162, 0, 0, 1},    {0x02, 1, 0, 0x01, 0},   {0x02, 1, 0, 0x01, 0},   {0x02, 1, 0, 0x82, 0},  {0x02, 1, 0, 0x82, 0},
-    {0x02, 3, 0, 0x01, 0},   {0x02, 3, 0, 0x82, 0},   {0x82, 0, 0, 0x01, 2},   {0x82, 0, 0, 0x82, 2},
+    {0x02, 3, 0, 0x01, 0},   {0x02, 3, 0, 0x82, 0},   {0x82, 0, 0, 0x01, 2},   {0x82, 0, 0, 0x82, 2},  {0x02, 1, 0, 0x83, 0},
+    {0x02, 3, 0, 0x83, 0},   {0x82, 0, 0, 0x83, 2},
 };
 static const struct row configure = {0x00, 9, 1, 0, 0};
 
@@ -212,6 +213,13 @@ static void make_bulk_in(struct chance *chance, const struct tmc_unit *unit, str
     call->room = one_in(chance, 6) ? some_length(chance, rooms, COUNT(rooms)) : unit->packet;
 }
 
+static void make_interrupt_in(struct chance *chance, struct call *call)
+{
+    static const size_t rooms[] = {0, 1, 3, 64, 1025};
+
+    call->room = one_in(chance, 6) ? some_length(chance, rooms, COUNT(rooms)) : 2;
+}
+
 static void make_take(struct chance *chance, const struct tmc_unit *unit, struct call *call)
 {
     const size_t rooms[] = {0, 1, unit->out_held, unit->out_held + 1u, unit->out_held > 0 ? unit->out_held - 1u : 0, 1025};
@@ -256,6 +264,9 @@ void make_call(struct chance *chance, enum kind kind, const struct tmc_unit *uni
     case BULK_IN:
         make_bulk_in(chance, unit, call);
         break;
+    case INTERRUPT_IN:
+        make_interrupt_in(chance, call);
+        break;
     case TAKE:
         make_take(chance, unit, call);
         break;
@@ -270,7 +281,7 @@ void make_call(struct chance *chance, enum kind kind, const struct tmc_unit *uni
 /* What leads on from a halt, or keeps a transfer going. */
 static bool make_next(struct chance *chance, const struct tmc_unit *unit, struct call *call)
 {
-    static const struct row clear_halt_in = {0x02, 1, 0, 0x82, 0};
+    static const struct row clear_halt_in = {0x02, 1, 0, 0x82, 0}, clear_halt_interrupt = {0x02, 1, 0, 0x83, 0};
     const struct row abort_out = {0xA2, 1, unit->out_recent, 0x01, 2};
 
     if (unit->out_left != 0 && one_in(chance, 5)) {
@@ -282,6 +293,9 @@ static bool make_next(struct chance *chance, const struct tmc_unit *unit, struct
     } else if (unit->in_halted && one_in(chance, 6)) {
         make_call(chance, SETUP, unit, call);
         make_row(clear_halt_in, call);
+    } else if (unit->interrupt_halted && one_in(chance, 6)) {
+        make_call(chance, SETUP, unit, call);
+        make_row(clear_halt_interrupt, call);
     } else if (!unit->out_halted && !unit->out_ready && one_in(chance, 2)) {
         make_call(chance, BULK_OUT, unit, call);
         make_good_bulk_out(chance, unit, call);
@@ -293,12 +307,13 @@ static bool make_next(struct chance *chance, const struct tmc_unit *unit, struct
 
 void make_traffic(struct chance *chance, const struct tmc_unit *unit, struct call *call)
 {
-    static const enum kind often[] = {SETUP, SETUP, SETUP, SETUP, BULK_OUT, BULK_OUT, BULK_IN, BULK_IN, TAKE, OFFER};
-    static const enum kind seldom[] = {SET_STATUS, SET_STATUS, PANEL, PANEL, BUS_RESET, SUSPEND};
+    static const enum kind often[] = {SETUP,   SETUP,   SETUP, SETUP, BULK_OUT,     BULK_OUT,
+                                      BULK_IN, BULK_IN, TAKE,  OFFER, INTERRUPT_IN, SET_STATUS};
+    static const enum kind seldom[] = {PANEL, PANEL, BUS_RESET, SUSPEND};
 
     if (!unit->configured && !one_in(chance, 8))
         make_call(chance, SETUP, unit, call);
-    else if (one_in(chance, 16))
+    else if (one_in(chance, 24))
         make_call(chance, seldom[below(chance, COUNT(seldom))], unit, call);
     else if (!make_next(chance, unit, call))
         make_call(chance, often[below(chance, COUNT(often))], unit, call);
@@ -317,6 +332,8 @@ struct tmc_answer perform(struct tmc_unit *unit, const struct call *call, const 
         return tmc_bulk_out(unit, input, call->length);
     case BULK_IN:
         return tmc_bulk_in(unit, buffer, call->room);
+    case INTERRUPT_IN:
+        return tmc_interrupt_in(unit, buffer, call->room);
     case TAKE:
         return tmc_take(unit, buffer, call->room);
     case OFFER:
@@ -338,7 +355,7 @@ bool can_come(enum kind kind, unsigned number)
         1u << 0 | 1u << 3,                                   /* power_on */
         1u << 0 | 1u << 1 | 1u << 3 | 1u << 15,              /* setup */
         (1u << 15) - 1,                                      /* bulk_out: 0 to 14 */
-        (1u << 6) - 1,                                       /* bulk_in: 0 to 5 */
+        (1u << 6) - 1, (1u << 6) - 1,                        /* bulk_in, interrupt_in: 0 to 5 */
         (1u << 4) - 1 + (1u << 16),                          /* take: 0 to 3, 16 */
         (1u << 4) - 1 + (1u << 16),                          /* offer */
         (1u << 3) - 1, (1u << 3) - 1,                        /* set_status, panel: 0 to 2 */

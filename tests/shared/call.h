@@ -5,7 +5,7 @@
 #include "chance.h"
 #include "tewennos.h"
 
-enum kind { POWER_ON, SETUP, BULK_OUT, BULK_IN, TAKE, OFFER, SET_STATUS, PANEL, BUS_RESET, SUSPEND, KINDS };
+enum kind { POWER_ON, SETUP, BULK_OUT, BULK_IN, INTERRUPT_IN, TAKE, OFFER, SET_STATUS, PANEL, BUS_RESET, SUSPEND, KINDS };
 
 #define LONGEST 2048u /* bytes that a call reads, or is lent to write */
 #define NUMBERS 17u   /* 0 to 16 */
@@ -18,6 +18,7 @@ struct call {
     uint8_t bytes[LONGEST];
 };
 
+#define NAME_WIDTH 12 /* of the longest name, in a table */
 extern const char *const kind_names[KINDS];
 
 /* A call of that kind: mostly one that the unit will do, else one that is damaged or has a length that does not fit. */
@@ -29,7 +30,7 @@ void make_traffic(struct chance *chance, const struct tmc_unit *unit, struct cal
 /* Calls the library. `input` has what the call reads, `buffer` is what it is lent. */
 struct tmc_answer perform(struct tmc_unit *unit, const struct call *call, const uint8_t *input, uint8_t *buffer);
 
-/* Whether the call can be answered with that number (document 01, "The first that applies decides"). */
+/* Whether the call can be answered with that number (document 01, "The first that applies decides"; 02, request 1). */
 bool can_come(enum kind kind, unsigned number);
 
 #endif

@@ -16,7 +16,8 @@ static const size_t byte_fields[] = {
     offsetof(struct tmc_unit, out_ready),  offsetof(struct tmc_unit, out_halted), offsetof(struct tmc_unit, out_end),
     offsetof(struct tmc_unit, out_recent), offsetof(struct tmc_unit, in_phase),   offsetof(struct tmc_unit, in_tag),
     offsetof(struct tmc_unit, in_enabled), offsetof(struct tmc_unit, in_term),    offsetof(struct tmc_unit, in_halted),
-    offsetof(struct tmc_unit, in_recent),  offsetof(struct tmc_unit, split),      offsetof(struct tmc_unit, zero),
+    offsetof(struct tmc_unit, in_recent),  offsetof(struct tmc_unit, split),      offsetof(struct tmc_unit, status),
+    offsetof(struct tmc_unit, notify1),    offsetof(struct tmc_unit, notify2),    offsetof(struct tmc_unit, interrupt_halted),
 };
 
 static uint16_t number_at(const struct tmc_unit *unit, unsigned field)
@@ -70,9 +71,34 @@ void overwrite_number(struct chance *chance, struct tmc_unit *unit, const struct
     set_number(unit, below(chance, NUMBER_FIELDS), value);
 }
 
+void set_packet(struct tmc_unit *unit, unsigned which)
+{
+    static const uint8_t statuses[] = {0x00, 0x40, 0xBF, 0xFF};
+
+    unit->notify1 = (uint8_t)(which % 256);
+    unit->notify2 = statuses[which / 256 % 4];
+    unit->status = statuses[which / 1024];
+}
+
+/* A value that a field of one byte might be thought to take: of a flag or an enum, or of Interrupt-IN's packet. */
+static uint8_t likely_byte(struct chance *chance)
+{
+    static const uint8_t of_packet[] = {0x00, 0x01, 0x3F, 0x40, 0x7F, 0x80, 0x81, 0x82, 0xBF, 0xC0, 0xFF};
+
+    switch (below(chance, 8)) {
+    case 0:
+        return (uint8_t)draw(chance);
+    case 1:
+    case 2:
+        return of_packet[below(chance, COUNT(of_packet))];
+    default:
+        return (uint8_t)below(chance, 4);
+    }
+}
+
 static void overwrite_byte(struct chance *chance, struct tmc_unit *unit)
 {
-    uint8_t value = (uint8_t)(one_in(chance, 8) ? draw(chance) : below(chance, 4));
+    uint8_t value = likely_byte(chance);
     size_t offset = byte_fields[below(chance, COUNT(byte_fields))];
 
     memcpy((uint8_t *)unit + offset, &value, 1);
@@ -141,6 +167,23 @@ static void plausible_in(struct chance *chance, struct tmc_unit *unit)
     }
 }
 
+static void plausible_interrupt(struct chance *chance, struct tmc_unit *unit)
+{
+    unit->status = (uint8_t)draw(chance);
+    unit->notify1 = 0;
+    unit->notify2 = 0;
+    unit->interrupt_halted = one_in(chance, 4);
+    if (one_in(chance, 3)) {
+        unit->notify1 = 0x81;
+        unit->notify2 = (uint8_t)(draw(chance) | 0x40u);
+    } else if (one_in(chance, 2)) {
+        unit->notify1 = (uint8_t)(0x82u + below(chance, 126));
+        unit->notify2 = (uint8_t)(draw(chance) & 0xBFu);
+    } else {
+        unit->status &= 0xBF;
+    }
+}
+
 static void plausible_split(struct chance *chance, struct tmc_unit *unit)
 {
     unit->split = (uint8_t)below(chance, 4);
@@ -163,10 +206,9 @@ void overwrite_plausibly(struct chance *chance, struct tmc_unit *unit)
     unit->packet = one_in(chance, 2) ? TMC_FULL_SPEED : TMC_HIGH_SPEED;
     unit->configured = !one_in(chance, 8);
     unit->ren = flag(chance);
-    unit->status = (uint8_t)draw(chance);
-    unit->zero = 0;
     unit->remote = (uint8_t)below(chance, 4);
     plausible_out(chance, unit);
     plausible_in(chance, unit);
+    plausible_interrupt(chance, unit);
     plausible_split(chance, unit);
 }

@@ -15,6 +15,11 @@ uint16_t limit(unsigned which, const struct tmc_unit *live);
 
 void set_number(struct tmc_unit *unit, unsigned field, uint16_t value);
 
+/* A status byte, and the packet of Interrupt-IN that waits beside it, `which` from 0 to PACKETS - 1: every first byte, and with each the two
+   status bytes at their limits, with bit 6 on and off. */
+#define PACKETS (256u * 4u * 4u)
+void set_packet(struct tmc_unit *unit, unsigned which);
+
 /* One two-byte field, with a likely value. */
 void overwrite_number(struct chance *chance, struct tmc_unit *unit, const struct tmc_unit *live);
 

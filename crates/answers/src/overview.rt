@@ -1,6 +1,8 @@
-// The answer to `state`: the parts of a unit on one line.
+// The answers to `state` and `more`: the parts of a unit, each on one line.
 use port::types::BulkIn;
 use port::types::BulkOut;
+use port::types::InterruptIn;
+use port::types::Notify;
 use port::types::OWED;
 use port::types::Port;
 use port::types::Remote;
@@ -61,14 +63,14 @@ fn put_message(out: &mut [u8], at: usize, bulkout: BulkOut) -> usize {
     put(out, at, b" message=none")
 }
 
-fn put_port(out: &mut [u8], at: usize, port: Port, remote: Remote) -> usize {
+fn put_port(out: &mut [u8], at: usize, port: Port, remote: Remote, status: u8) -> usize {
     let at = put(out, at, b"0 configured=");
     let at = put_flag(out, at, port.configured == 1);
     let at = put(out, at, b" ren=");
     let at = put_flag(out, at, port.ren == 1);
     let at = put_remote(out, at, remote);
     let at = put(out, at, b" status=");
-    put_pair(out, at, port.status)
+    put_pair(out, at, status)
 }
 
 fn put_halts(out: &mut [u8], at: usize, bulkout: BulkOut, bulkin: BulkIn) -> usize {
@@ -104,10 +106,35 @@ pub fn put_overview(
     let port = small.port;
     let bulkout = small.bulkout;
     let bulkin = small.bulkin;
-    let at = put_port(out, at, port, remote);
+    let at = put_port(out, at, port, remote, small.interrupt.status);
     let at = put_halts(out, at, bulkout, bulkin);
     let at = put_message(out, at, bulkout);
     let at = put_reply(out, at, bulkin, split);
     let at = put_tags(out, at, bulkout, bulkin);
+    put_byte(out, at, b'\n')
+}
+
+// The packet that waits on Interrupt-IN, by its two bytes.
+fn put_notify(out: &mut [u8], at: usize, waiting: Notify) -> usize {
+    if waiting.notify1 == 0 {
+        return put(out, at, b" int=none");
+    }
+    let at = put(out, at, b" int=");
+    let at = put_pair(out, at, waiting.notify1);
+    put_pair(out, at, waiting.notify2)
+}
+
+fn put_interrupt(out: &mut [u8], at: usize, interrupt: InterruptIn) -> usize {
+    let waiting = interrupt.waiting;
+    let at = put_notify(out, at, waiting);
+    let at = put(out, at, b" int-endpoint=");
+    put_halted(out, at, interrupt.halted)
+}
+
+pub fn put_more(out: &mut [u8], at: usize, small: Small) -> usize {
+    let interrupt = small.interrupt;
+    let at = put(out, at, b"0 p=");
+    let at = put_decimal(out, at, small.port.setting.packet);
+    let at = put_interrupt(out, at, interrupt);
     put_byte(out, at, b'\n')
 }

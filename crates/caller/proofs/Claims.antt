@@ -1,11 +1,12 @@
 -- THE CLAIMS, each named again for what C has seen (`c-..`), from power-on or from the bytes of any sound unit, and for a unit by value or where it stands
 -- (`unit-..`). Each is one line: what was seen is a trace of the definitions (Seen).
 -- Assumes nothing.
-use Prim.Native.Nat.{ℕ}
+use Prim.Native.Nat.{ℕ, _+_}
 use mathlib.Core.Path.{_≡_, refl, sym, ap, _∙_, subst}
 use mathlib.Core.Bool.{true}
 use mathlib.Core.Logic.{_⊎_, inl, inr, ⊎-elim}
 use Rattle.rules.specs.Answers.{done}
+use Rattle.rules.specs.When.{Not}
 use mathlib.Core.List.{List, [], _∷_, _++_, head-eq-of-cons-eq, tail-eq-of-cons-eq}
 use Rattle.port.specs.Parts.{packetSize, outOf}
 use Rattle.port.specs.Answer.{Answer}
@@ -16,10 +17,12 @@ use Rattle.port.specs.When.{given}
 use Rattle.port.specs.Survivors.{survivors}
 use Rattle.port.specs.Laws.{Stored, INITIATE-CLEAR, CHECK-CLEAR-STATUS, CLEAR-FEATURE-IN, Succeeds, success, Attends, Ready as Ready-to-clear}
 use Rattle.port.specs.Reply.{unread, readerOf, Reading}
+use Rattle.port.specs.Service.{unwatched, bit6, Watching, watchOf}
 use Rattle.port.specs.declared.types.Setting.{Setting}
 use Rattle.port.proofs.Clearing.{clear-reached-polled, clear-reached-halted}
 use Rattle.port.proofs.When.{rule-for-every}
 use Rattle.port.proofs.Replies.{replies-read, replies-read-ever}
+use Rattle.port.proofs.Service.{status-told, status-told-ever}
 use Rattle.flat.specs.Flat.{isUnit, opened, shut}
 use Rattle.flatcalls.specs.Promise.{Lent, Left, onBytes, Leaves}
 use Rattle.flatcalls.proofs.Called.{on-unit}
@@ -34,6 +37,7 @@ use Rattle.claims.specs.Acted.{Acting}
 use Rattle.claims.specs.Arrival.{older, coming, NoBreaks, Arrives, Waiting, stageOf}
 use Rattle.claims.specs.Fresh.{CLEAR-FEATURE-OUT, GET-STATUS-OUT, freshUnit}
 use Rattle.claims.specs.Replies.{polledIn, offeredIn, readAfter, toCome, NoDrops, Dropped, Ready, AllCome, Arriving}
+use Rattle.claims.specs.Service.{sets, polls, reads, Undisturbed, lastSet, NoneWaits, heldBehind, Brings, NoneMadeUpFrom}
 use Rattle.claims.proofs.Acted.{acts-only-on, acts-only-on-ever}
 use Rattle.claims.proofs.Again.{command-after-clear}
 use Rattle.claims.proofs.Arrives.{whole-command}
@@ -42,6 +46,7 @@ use Rattle.claims.proofs.Cleared.{clean-after-fault}
 use Rattle.claims.proofs.Ever.{whole-command-ever}
 use Rattle.claims.proofs.Handed.{no-half-command, no-half-command-ever}
 use Rattle.claims.proofs.Replies.{read-back}
+use Rattle.claims.proofs.Service.{no-request-lost, status-comes, none-made-up}
 use Rattle.caller.specs.Runs.{answersOf}
 use Rattle.caller.specs.Seen.{OneByUnit, SeenByC, SeenByUnit}
 use Rattle.caller.proofs.Seen.{in-octets, c-stored, c-from, c-bytes, c-trace, c-octets, c-holds, unit-trace-from, unit-trace, unit-octets, unit-holds}
@@ -69,6 +74,9 @@ module _ (d : Device) (stored : Stored d) (sound : isSound d ≡ true) (es : Lis
 
   seen-reading : Reading (packetSize (d .state)) (readerOf d) es
   seen-reading = by (Reading (packetSize (d .state)) (readerOf d)) (replies-read d (callsOf es) stored sound)
+
+  seen-told : Watching (watchOf d) es
+  seen-told = by (Watching (watchOf d)) (status-told d (callsOf es) sound)
 
   seen-arriving : Ready d → Arriving (packetSize (d .state)) unread es
   seen-arriving ready = by (Arriving (packetSize (d .state)) unread) (reply-arrives d (callsOf es) ready)
@@ -197,6 +205,9 @@ module _ (u : List ℕ) (lent : Lent u) (is : isUnit u ≡ true) (sound : isSoun
   pub c-replies-read : Reading P (readerOf d) es
   c-replies-read = seen-reading d stored sound es octets traced
 
+  pub c-status-told : Watching (watchOf d) es
+  c-status-told = seen-told d stored sound es octets traced
+
   pub c-reply-arrives : Ready d → Arriving P unread es
   c-reply-arrives = seen-arriving d stored sound es octets traced
 
@@ -252,6 +263,28 @@ module _ (setting : Setting) where
       Dropped size unread before → NoDrops size r stretch → offeredIn stretch ≡ polledIn size r stretch ++ toCome (readAfter size r stretch)
   c-read-back before stretch later u′ h = read-back setting (callsOf (before ++ (stretch ++ later))) before stretch later (sym (c-trace setting _ u′ h))
 
+  pub c-status-told-ever : (es : List Event) (u′ : List ℕ) → SeenByC (shut (powerOn setting .unit)) es u′ → Watching unwatched es
+  c-status-told-ever = c-holds setting (Watching unwatched) (λ calls _. status-told-ever setting calls)
+
+  pub c-none-made-up : (es : List Event) (u′ : List ℕ) → SeenByC (shut (powerOn setting .unit)) es u′ → NoneMadeUpFrom unwatched [] es
+  c-none-made-up = c-holds setting (NoneMadeUpFrom unwatched []) (λ calls _. none-made-up setting calls)
+
+  pub c-request-at-once : (before between later : List Event) (status room : ℕ) (a b : Answer) (u′ : List ℕ)
+      → SeenByC (shut (powerOn setting .unit)) (before ++ (sets status a ∷ (between ++ (polls room b ∷ later)))) u′
+      → a .verdict .number ≡ 0 → bit6 status ≡ true → NoneWaits before → Undisturbed between → Brings (0x81 ∷ status ∷ []) b
+  c-request-at-once before between later status room a b u′ h = no-request-lost .at-once setting _ before between later status room a b (sym (c-trace setting _ u′ h))
+
+  pub c-request-kept : (before between more later : List Event) (status room first : ℕ) (a b c : Answer) (u′ : List ℕ)
+      → SeenByC (shut (powerOn setting .unit)) (before ++ (sets status a ∷ (between ++ (polls first b ∷ (more ++ (polls room c ∷ later)))))) u′
+      → a .verdict .number ≡ 0 → bit6 status ≡ true → Not (NoneWaits before) → Undisturbed between → b .verdict .number ≡ 0 → Undisturbed more
+      → bit6 (lastSet status between) ≡ true → Brings (0x81 ∷ lastSet status between ∷ []) c
+  c-request-kept before between more later status room first a b c u′ h = no-request-lost .kept setting _ before between more later status room first a b c (sym (c-trace setting _ u′ h))
+
+  pub c-status-comes : (before between later : List Event) (tag control room : ℕ) (a b : Answer) (u′ : List ℕ)
+      → SeenByC (shut (powerOn setting .unit)) (before ++ (reads tag control a ∷ (between ++ (polls room b ∷ later)))) u′
+      → Succeeds a → Undisturbed between → Brings ((0x80 + tag) ∷ heldBehind before ∷ []) b
+  c-status-comes before between later tag control room a b u′ h = status-comes setting _ before between later tag control room a b (sym (c-trace setting _ u′ h))
+
 -- ** by value and in place
 
 module _ (u : Unit) (stored : Stored (deviceOf u)) (sound : isSound (deviceOf u) ≡ true) (es : List Event) (u′ : Unit) (h : SeenByUnit u es u′) where
@@ -275,6 +308,9 @@ module _ (u : Unit) (stored : Stored (deviceOf u)) (sound : isSound (deviceOf u)
 
   pub unit-replies-read : Reading (packetSize (e .state)) (readerOf e) es
   unit-replies-read = seen-reading e stored sound es bytes is-traced
+
+  pub unit-status-told : Watching (watchOf e) es
+  unit-status-told = seen-told e stored sound es bytes is-traced
 
   pub unit-reply-arrives : Ready e → Arriving (packetSize (e .state)) unread es
   unit-reply-arrives = seen-arriving e stored sound es bytes is-traced
@@ -322,3 +358,25 @@ module _ (setting : Setting) (r : Done) (meets : r ≡ doneOf (powerOn setting))
       → let x = readAfter (size setting) unread before in
       Dropped (size setting) unread before → NoDrops (size setting) x stretch → offeredIn stretch ≡ polledIn (size setting) x stretch ++ toCome (readAfter (size setting) x stretch)
   unit-read-back before stretch later u′ h = read-back setting (callsOf (before ++ (stretch ++ later))) before stretch later (sym (unit-trace setting r meets _ u′ h))
+
+  pub unit-status-told-ever : (es : List Event) (u′ : Unit) → SeenByUnit (r .unit) es u′ → Watching unwatched es
+  unit-status-told-ever = unit-holds setting r meets (Watching unwatched) (λ calls _. status-told-ever setting calls)
+
+  pub unit-none-made-up : (es : List Event) (u′ : Unit) → SeenByUnit (r .unit) es u′ → NoneMadeUpFrom unwatched [] es
+  unit-none-made-up = unit-holds setting r meets (NoneMadeUpFrom unwatched []) (λ calls _. none-made-up setting calls)
+
+  pub unit-request-at-once : (before between later : List Event) (status room : ℕ) (a b : Answer) (u′ : Unit)
+      → SeenByUnit (r .unit) (before ++ (sets status a ∷ (between ++ (polls room b ∷ later)))) u′
+      → a .verdict .number ≡ 0 → bit6 status ≡ true → NoneWaits before → Undisturbed between → Brings (0x81 ∷ status ∷ []) b
+  unit-request-at-once before between later status room a b u′ h = no-request-lost .at-once setting _ before between later status room a b (sym (unit-trace setting r meets _ u′ h))
+
+  pub unit-request-kept : (before between more later : List Event) (status room first : ℕ) (a b c : Answer) (u′ : Unit)
+      → SeenByUnit (r .unit) (before ++ (sets status a ∷ (between ++ (polls first b ∷ (more ++ (polls room c ∷ later)))))) u′
+      → a .verdict .number ≡ 0 → bit6 status ≡ true → Not (NoneWaits before) → Undisturbed between → b .verdict .number ≡ 0 → Undisturbed more
+      → bit6 (lastSet status between) ≡ true → Brings (0x81 ∷ lastSet status between ∷ []) c
+  unit-request-kept before between more later status room first a b c u′ h = no-request-lost .kept setting _ before between more later status room first a b c (sym (unit-trace setting r meets _ u′ h))
+
+  pub unit-status-comes : (before between later : List Event) (tag control room : ℕ) (a b : Answer) (u′ : Unit)
+      → SeenByUnit (r .unit) (before ++ (reads tag control a ∷ (between ++ (polls room b ∷ later)))) u′
+      → Succeeds a → Undisturbed between → Brings ((0x80 + tag) ∷ heldBehind before ∷ []) b
+  unit-status-comes before between later tag control room a b u′ h = status-comes setting _ before between later tag control room a b (sym (unit-trace setting r meets _ u′ h))

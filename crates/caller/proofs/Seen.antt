@@ -8,7 +8,7 @@ use mathlib.Core.List.{List, _∷_}
 use mathlib.Core.Logic.{_⊎_, inl, inr}
 use native.Mathlib.Omega.{arith}
 use Rattle.port.specs.Device.{Device, isSound, powerOn}
-use Rattle.port.specs.Step.{in-poll, offer-reply, set-status, front-panel, bus-suspend, Call, setup-packet, out-packet, take-into, bus-reset, quiet, step, after}
+use Rattle.port.specs.Step.{in-poll, interrupt-poll, offer-reply, set-status, front-panel, bus-suspend, Call, setup-packet, out-packet, take-into, bus-reset, quiet, step, after}
 use Rattle.port.specs.Trace.{Event, trace, AllInOctets, callsOf}
 use Rattle.port.specs.Laws.{Stored}
 use Rattle.port.specs.declared.types.Setting.{Setting}
@@ -25,7 +25,7 @@ use Rattle.unit.specs.declared.types.Unit.{Unit}
 use Rattle.unit.specs.declared.types.Done.{Done}
 use Rattle.unit.proofs.Public.{new-step, done-step, told-step}
 use Rattle.inplace.proofs.Public.{packet-in-place-step, poll-in-place-step}
-use Rattle.caller.specs.Seen.{Lends, sets-up, polls, takes, OneByC, unlent, lent, OneByUnit, returns, writes, packet-in-place, poll-in-place, Seen, none, then, SeenByC, SeenByUnit}
+use Rattle.caller.specs.Seen.{Lends, sets-up, polls, interrupts, takes, OneByC, unlent, lent, OneByUnit, returns, writes, packet-in-place, poll-in-place, Seen, none, then, SeenByC, SeenByUnit}
 
 -- every call is lent a buffer or not: none is left out
 pub lends-or-not : (c : Call) → Mute c ⊎ ((room : ℕ) × Lends c room)
@@ -34,6 +34,7 @@ lends-or-not (out-packet s) = inl (packet s)
 lends-or-not (take-into room) = inr (room, takes room)
 lends-or-not bus-reset = inl resets
 lends-or-not (quiet (in-poll room)) = inr (room, polls room)
+lends-or-not (quiet (interrupt-poll room)) = inr (room, interrupts room)
 lends-or-not (quiet (offer-reply bytes)) = inl (offers bytes)
 lends-or-not (quiet (set-status status)) = inl (sets status)
 lends-or-not (quiet front-panel) = inl panels

@@ -7,7 +7,7 @@ use mathlib.Core.List.{List, [], _∷_}
 use lib.ListN.{length, take}
 use Rattle.rules.specs.Answers.{TELLS-NOTHING}
 use Rattle.rules.specs.declared.verdict.Verdict.{Verdict}
-use Rattle.port.specs.Step.{in-poll, Call, out-packet, take-into, quiet, setup-of, step}
+use Rattle.port.specs.Step.{in-poll, interrupt-poll, Call, out-packet, take-into, quiet, setup-of, step}
 use Rattle.port.specs.Trace.{Event, InOctets}
 use Rattle.port.proofs.Silent.{Mute}
 use Rattle.flatcalls.specs.Promise.{onBytes, Leaves, Fills}
@@ -23,6 +23,7 @@ use Rattle.inplace.specs.declared.types.Sent.{Sent}
 pub data Lends : Call → ℕ → Type 0 where
   sets-up : (s : List ℕ) (room : ℕ) → Lends (setup-of s room) room
   polls : (room : ℕ) → Lends (quiet (in-poll room)) room
+  interrupts : (room : ℕ) → Lends (quiet (interrupt-poll room)) room
   takes : (room : ℕ) → Lends (take-into room) room
 
 -- a call with what was seen of its answer

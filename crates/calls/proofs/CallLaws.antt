@@ -8,7 +8,8 @@ use native.Mathlib.Omega.{arith}
 use Rattle.rules.specs.Choice.{pick, first, decide}
 use Rattle.rules.specs.Answers.{UNSOUND}
 use Rattle.rules.proofs.Choice.{refuses, passes}
-use Rattle.port.specs.Parts.{portOf, withPort, withRemote, withStatus}
+use Rattle.port.specs.Parts.{interruptOf, withInterrupt, withRemote}
+use Rattle.port.specs.Interrupt.{statusHeld}
 use Rattle.port.specs.Remote.{byPanel}
 use Rattle.port.specs.Sound.{sound}
 use Rattle.port.specs.Answer.{Said, says, refuse}
@@ -32,7 +33,7 @@ module _ (st : State) (n : ℕ) (gate : n ≡ pick (sound st) (first (thermostat
   unfolding statusSet
   status-refused status = gate-refused st _ n (sound st) gate
 
-  pub status-done : (status : ℕ) → n ≡ 0 → says (withPort st (withStatus (portOf st) status)) [] ≡ pick (sound st) (statusSet st status) (refuse st UNSOUND)
+  pub status-done : (status : ℕ) → n ≡ 0 → says (withInterrupt st (statusHeld (interruptOf st) status)) [] ≡ pick (sound st) (statusSet st status) (refuse st UNSOUND)
   unfolding statusSet
   status-done status = gate-passed st _ n (sound st) gate
 

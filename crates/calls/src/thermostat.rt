@@ -1,4 +1,5 @@
 // The thermostat sets its status byte, or asks at its panel for local control.
+use interrupts::part::status_held;
 use port::types::Given;
 use port::types::State;
 use remote::remote::by_panel;
@@ -7,9 +8,8 @@ use rules::UNCONFIGURED;
 use rules::UNSOUND;
 use soundness::sound::sound;
 use state::given::given;
-use state::parts::with_port;
+use state::parts::with_interrupt;
 use state::parts::with_remote;
-use state::parts::with_status;
 ghost use mathlib.Core.Path.{_≡_};
 ghost use Prim.Native.Nat.{ℕ};
 ghost use Rattle.rules.specs.Choice.{pick, first};
@@ -45,8 +45,8 @@ pub fn status_set(st: State, status: u8) -> Given
     if number != 0 {
         return given(st, number);
     }
-    let p = st.small.port;
-    given(with_port(st, with_status(p, status)), DONE)
+    let i = st.small.interrupt;
+    given(with_interrupt(st, status_held(i, status)), DONE)
 }
 
 // Local control, asked for at the front panel.

@@ -18,9 +18,10 @@ use Rattle.port.specs.Parts.{isSize, outOf, fresh}
 use Rattle.port.specs.Answer.{Answer, Said, refuse}
 use Rattle.port.specs.Out.{plain, outcome, planned, accepted as acceptance, outPlan}
 use Rattle.port.specs.In.{inRules, poll}
+use Rattle.port.specs.Interrupt.{interruptRules, interruptPoll}
 use Rattle.port.specs.Device.{Device, Result, isSound, made, powerOn}
-use Rattle.port.specs.Calls.{carriedOut, bulkOut, bulkIn, takeRules, taking, take-message, offerRules, offerPlan, offer, thermostatRules, statusSet, setStatus, returned, panel, busReset, suspend}
-use Rattle.port.specs.Step.{Quiet, in-poll, offer-reply, set-status, front-panel, bus-suspend, Call, setup-packet, out-packet, take-into, bus-reset, quiet, quietly, soundly, step}
+use Rattle.port.specs.Calls.{carriedOut, bulkOut, bulkIn, interruptIn, takeRules, taking, take-message, offerRules, offerPlan, offer, thermostatRules, statusSet, setStatus, returned, panel, busReset, suspend}
+use Rattle.port.specs.Step.{Quiet, in-poll, interrupt-poll, offer-reply, set-status, front-panel, bus-suspend, Call, setup-packet, out-packet, take-into, bus-reset, quiet, quietly, soundly, step}
 use Rattle.port.specs.Laws.{Stored, LeftAs}
 use Rattle.port.specs.Trace.{trace, Octets, InOctets, AllInOctets}
 use Rattle.port.specs.When.{given}
@@ -148,8 +149,9 @@ module _ (u : Device) (sound : isSound u ≡ true) where
   -- ** calls that tell nothing
 
   untold : (q : Quiet) → quietly u q .answer .verdict .tells ≡ 0
-  unfolding quietly bulkIn poll offer offerPlan setStatus statusSet panel returned suspend
+  unfolding quietly bulkIn poll interruptIn interruptPoll offer offerPlan setStatus statusSet panel returned suspend
   untold (in-poll room) = decide-all (λ (r : Said). r .answer .verdict .tells ≡ 0) (refuse st) (inRules st room) _ (refl, (refl, (refl, (refl, tt)))) (λ _. refl)
+  untold (interrupt-poll room) = decide-all (λ (r : Said). r .answer .verdict .tells ≡ 0) (refuse st) (interruptRules st room) _ (refl, (refl, (refl, (refl, tt)))) (λ _. refl)
   untold (offer-reply bytes) = decide-all (λ (r : Plan). r .verdict .tells ≡ 0) (λ n. plain st (only n)) (offerRules st (length bytes)) _ (refl, (refl, (refl, tt))) (λ _. refl)
   untold (set-status status) = decide-all (λ (r : Said). r .answer .verdict .tells ≡ 0) (refuse st) (thermostatRules st) _ (refl, tt) (λ _. refl)
   untold front-panel = decide-all (λ (r : Said). r .answer .verdict .tells ≡ 0) (refuse st) (thermostatRules st) _ (refl, tt) (λ _. refl)

@@ -12,21 +12,22 @@ use Rattle.rules.specs.Choice.{_=ᵇ_, _and_, no, pick}
 use Rattle.rules.specs.Answers.{only}
 use Rattle.rules.proofs.Choice.{pick-all, decide-all, at-true, at-false}
 use Rattle.wire.specs.Setup.{readSetup}
-use Rattle.wire.specs.declared.types.Endpoint.the-variants.{Out, In}
+use Rattle.wire.specs.declared.types.Endpoint.the-variants.{Out, In, Interrupt}
 use Rattle.wire.specs.declared.types.Header.the-variants.{Message, Request, Trigger}
 use Rattle.wire.specs.declared.types.Row.{Row}
 use Rattle.wire.specs.declared.types.Row.the-variants.{InitiateAbortBulkOut, CheckAbortBulkOutStatus, InitiateAbortBulkIn, CheckAbortBulkInStatus, InitiateClear, CheckClearStatus, GetCapabilities, IndicatorPulse, ReadStatusByte, RenControl, GoToLocal, LocalLockout, ClearFeature, SetFeature, GetStatus}
 use Rattle.wire.specs.declared.types.Setup.{Setup}
 use Rattle.wire.specs.declared.types.Setup.the-variants.{Configure, Asks, NoRow}
-use Rattle.port.specs.Parts.{on, packetSize, isOpenOut, isOpenIn, isOwed, isClear, keepsHalt, outOf, inOf, isConfigured, broken, fresh}
+use Rattle.port.specs.Parts.{on, packetSize, isOpenOut, isOpenIn, isOwed, isClear, keepsHalt, outOf, inOf, interruptOf, isConfigured, broken, fresh}
 use Rattle.port.specs.Remote.{localNow}
 use Rattle.port.specs.Answer.{Answer, Said, refuse}
 use Rattle.port.specs.Out.{plain, outcome, planned, accepted as acceptance, outPlan}
 use Rattle.port.specs.In.{inRules, poll}
-use Rattle.port.specs.Rows.{Reaction, answering, abortRules, outTag, inTag, initiateAbortOut, initiateAbortIn, checkAbortOut, checkAbortIn, initiateClear, checkClear, clearFeatureOut, answerRow, effected}
+use Rattle.port.specs.Interrupt.{isWaiting, interruptRules, interruptPoll}
+use Rattle.port.specs.Rows.{Reaction, answering, abortRules, outTag, inTag, initiateAbortOut, initiateAbortIn, checkAbortOut, checkAbortIn, initiateClear, checkClear, readStatus, clearFeatureOut, answerRow, effected}
 use Rattle.port.specs.Device.{Device, Result, isSound, made}
-use Rattle.port.specs.Calls.{bulkOut, bulkIn, setupRules, asked, setupOutcome, answered, setup, takeRules, taking, take-message, offerRules, offerPlan, offer, thermostatRules, statusSet, setStatus, returned, panel, busReset, suspend}
-use Rattle.port.specs.Step.{Quiet, in-poll, offer-reply, set-status, front-panel, bus-suspend, SetupPacket, Call, setup-packet, out-packet, take-into, bus-reset, quiet, setup-of, quietly, soundly, step, after}
+use Rattle.port.specs.Calls.{bulkOut, bulkIn, interruptIn, setupRules, asked, setupOutcome, answered, setup, takeRules, taking, take-message, offerRules, offerPlan, offer, thermostatRules, statusSet, setStatus, returned, panel, busReset, suspend}
+use Rattle.port.specs.Step.{Quiet, in-poll, interrupt-poll, offer-reply, set-status, front-panel, bus-suspend, SetupPacket, Call, setup-packet, out-packet, take-into, bus-reset, quiet, setup-of, quietly, soundly, step, after}
 use Rattle.port.specs.Laws.{Stored, CHECK-CLEAR-STATUS, Succeeds}
 use Rattle.port.specs.Trace.{trace, Octets, InOctets, AllInOctets}
 use Rattle.port.specs.declared.types.BulkOut.{BulkOut}
@@ -72,7 +73,7 @@ module _ (u : Device) (free : keepsHalt (u .state .split) ≡ false) where
   Rows heeds r = NoBreak (heeds (r .answer)) → Free (effected st (r .effect))
 
   row-free : (row : Row) → Rows (inRow row) (answerRow st row)
-  unfolding answerRow initiateAbortOut initiateAbortIn checkAbortOut checkAbortIn initiateClear checkClear effected localNow pick
+  unfolding answerRow initiateAbortOut initiateAbortIn checkAbortOut checkAbortIn initiateClear checkClear readStatus effected localNow pick
   row-free (InitiateAbortBulkOut tag) =
       decide-all (Rows (inRow (InitiateAbortBulkOut tag))) (λ status. answering (status ∷ outTag (outOf st) ∷ [])) (abortRules (st .split) (isOpenOut (outOf st)) (outTag (outOf st)) tag) _
       ((λ _. free), ((λ _. free), ((λ _. free), tt))) (λ _ n. absurd n)
@@ -97,14 +98,16 @@ module _ (u : Device) (free : keepsHalt (u .state .split) ≡ false) where
   row-free CheckClearStatus = pick-all (Rows (λ _. nothing)) (no (isClear (st .split))) _ _ (λ _ _. free) (λ _. pick-all (Rows (λ _. nothing)) (isOwed (inOf st)) _ _ (λ _ _. free) (λ _ _. refl))
   row-free GetCapabilities = λ _. free
   row-free IndicatorPulse = λ _. free
-  row-free (ReadStatusByte tag) = λ _. free
+  row-free (ReadStatusByte tag) = λ _. pick-all (λ (r : Reaction). Free (effected st (r .effect))) (isWaiting (interruptOf st)) _ _ (λ _. free) (λ _. free)
   row-free (RenControl ren) = λ _. pick-all Free (on ren) _ _ (λ _. free) (λ _. free)
   row-free GoToLocal = λ _. free
   row-free LocalLockout = λ _. free
   row-free (ClearFeature Out) = λ _. free
   row-free (ClearFeature In) = λ _. free
+  row-free (ClearFeature Interrupt) = λ _. free
   row-free (SetFeature Out) = λ _. free
   row-free (SetFeature In) = λ _. free
+  row-free (SetFeature Interrupt) = λ _. free
   row-free (GetStatus endpoint) = λ _. free
 
   module _ (p : SetupPacket) where
@@ -132,8 +135,9 @@ module _ (u : Device) (free : keepsHalt (u .state .split) ≡ false) where
   planned-free (Accept (Trigger tag) count) = free
 
   quiet-free : (q : Quiet) → Free (quietly u q .unit .state)
-  unfolding quietly bulkIn poll offer offerPlan setStatus statusSet panel returned suspend localNow
+  unfolding quietly bulkIn poll interruptIn interruptPoll offer offerPlan setStatus statusSet panel returned suspend localNow
   quiet-free (in-poll room) = decide-all (λ (r : Said). Free (r .state)) (refuse st) (inRules st room) _ (free, (free, (free, (free, tt)))) (λ _. free)
+  quiet-free (interrupt-poll room) = decide-all (λ (r : Said). Free (r .state)) (refuse st) (interruptRules st room) _ (free, (free, (free, (free, tt)))) (λ _. free)
   quiet-free (offer-reply bytes) = decide-all (λ (r : Plan). Free (r .state)) (λ n. plain st (only n)) (offerRules st (length bytes)) _ (free, (free, (free, tt))) (λ _. free)
   quiet-free (set-status status) = decide-all (λ (r : Said). Free (r .state)) (refuse st) (thermostatRules st) _ (free, tt) (λ _. free)
   quiet-free front-panel = decide-all (λ (r : Said). Free (r .state)) (refuse st) (thermostatRules st) _ (free, tt) (λ _. free)

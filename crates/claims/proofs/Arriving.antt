@@ -1,7 +1,7 @@
 -- A REPLY ARRIVES: what may come leaves both endpoints running and Bulk-OUT at rest, and then the rules of 01 (RuleForEvery) leave no other answer than the
 -- one that is due.
 -- Assumes nothing.
-use Prim.Native.Nat.{ℕ, suc, _+_, _*_, _/_, _%_, _≤_}
+use Prim.Native.Nat.{ℕ, suc, _+_, _*_, _/_, _%_, _≤_, _<_}
 use mathlib.Core.Path.{_≡_, refl, sym, ap, _∙_, subst}
 use mathlib.Core.Bool.{true, true≢false}
 use mathlib.Core.List.{List, [], _∷_, _++_, append-nil}
@@ -22,16 +22,17 @@ use Rattle.wire.specs.declared.types.Row.{Row}
 use Rattle.wire.specs.declared.types.Setup.{Setup}
 use Rattle.wire.specs.declared.types.Setup.the-variants.{Configure, Asks, NoRow}
 use Rattle.wire.proofs.When.{setup-law}
-use Rattle.port.specs.Parts.{on, isOwed, isClear, portOf, outOf, inOf, packetSize, withIn, ASKED, shut as shut-off}
+use Rattle.port.specs.Parts.{on, isOwed, isClear, portOf, outOf, inOf, interruptOf, packetSize, withIn, ASKED, shut as shut-off}
 use Rattle.port.specs.Remote.{localNow}
 use Rattle.port.specs.Answer.{Answer, Said, refuse}
 use Rattle.port.specs.Out.{plain, outcome, planned, accepted, outPlan}
 use Rattle.port.specs.In.{Packet, fixed, started, gone, send, nextPacket, inRules, poll}
-use Rattle.port.specs.Rows.{Reaction, checkAbortOut, checkAbortIn, checkClear, answerRow, effected}
+use Rattle.port.specs.Interrupt.{isWaiting, interruptRules, interruptPoll}
+use Rattle.port.specs.Rows.{Reaction, checkAbortOut, checkAbortIn, checkClear, readStatus, answerRow, effected}
 use Rattle.port.specs.Device.{Device, Result, isSound, unsentOf}
-use Rattle.port.specs.Calls.{bulkOut, bulkIn, setupRules, asked as asks-for, setupOutcome, answered, setup, takeRules, taking, take-message, offerRules, offered, offerPlan, withReply, offer}
+use Rattle.port.specs.Calls.{bulkOut, bulkIn, interruptIn, setupRules, asked as asks-for, setupOutcome, answered, setup, takeRules, taking, take-message, offerRules, offered, offerPlan, withReply, offer}
 use Rattle.port.specs.Calls.{thermostatRules, statusSet, setStatus, returned, panel, suspend}
-use Rattle.port.specs.Step.{Quiet, in-poll, offer-reply, set-status, front-panel, bus-suspend, Call, setup-packet, out-packet, take-into, bus-reset, quiet, quietly, soundly, step}
+use Rattle.port.specs.Step.{Quiet, in-poll, interrupt-poll, offer-reply, set-status, front-panel, bus-suspend, Call, setup-packet, out-packet, take-into, bus-reset, quiet, quietly, soundly, step}
 use Rattle.port.specs.Trace.{Event, trace}
 use Rattle.port.specs.Laws.{Stored}
 use Rattle.port.specs.When.{Unsound, Unconfigured, InOpen, Owed, ReplyStored, ofHeader, given}
@@ -89,11 +90,12 @@ module _ (u : Device) where
       started-kept = pick-all (λ (x : BulkIn). x .halted ≡ inOf st .halted) (inOf st .transfer .phase =ᵇ ASKED) _ _ (λ _. refl) (λ _. refl)
 
   quiet-kept : (q : Quiet) → Kept (quietly u q .unit .state)
-  unfolding quietly bulkIn poll nextPacket shut-off offer offered offerPlan setStatus statusSet panel returned suspend localNow
+  unfolding quietly bulkIn poll interruptIn interruptPoll nextPacket shut-off offer offered offerPlan setStatus statusSet panel returned suspend localNow
   quiet-kept (in-poll room) =
       decide-all (λ (x : Said). Kept (x .state)) (refuse st) (inRules st room) _ (refl, (refl, (refl, (refl, tt))))
       (λ _. pick-all (λ (x : Packet). Kept (withIn st (x .side))) (isOwed (inOf st)) _ _ (λ _. refl)
       (λ _. side-kept (send (packetSize st) (inOf st) (unsentOf u) .side) (packet-kept (packetSize st) (unsentOf u))))
+  quiet-kept (interrupt-poll room) = decide-all (λ (x : Said). Kept (x .state)) (refuse st) (interruptRules st room) _ (refl, (refl, (refl, (refl, tt)))) (λ _. refl)
   quiet-kept (offer-reply bytes) = decide-all (λ (x : Plan). Kept (withReply u bytes x .unit .state)) (λ n. plain st (only n)) (offerRules st (length bytes)) _ (refl, (refl, (refl, tt))) (λ _. refl)
   quiet-kept (set-status status) = decide-all (λ (x : Said). Kept (x .state)) (refuse st) (thermostatRules st) _ (refl, tt) (λ _. refl)
   quiet-kept front-panel = decide-all (λ (x : Said). Kept (x .state)) (refuse st) (thermostatRules st) _ (refl, tt) (λ _. refl)
@@ -116,7 +118,7 @@ module _ (u : Device) where
   row-kept row k = pick-all Leaves _ _ _ (λ _. k) (λ _. refl)
 
   abbrev Safe : Column × (ℕ → Setup) → Type 0
-  Safe c = Harmless (c .0 .type) (c .0 .request) → (v : ℕ) → Leaves (asks-for st (c .1 v))
+  Safe c = (c .0 .index < 256) × (Harmless (c .0 .type) (c .0 .request) (c .0 .index) → (v : ℕ) → Leaves (asks-for st (c .1 v)))
 
   abbrev Reacts : Reaction → Type 0
   Reacts x = Kept (effected st (x .effect))
@@ -129,18 +131,26 @@ module _ (u : Device) where
   checks Clear = (refl, refl)
 
   all-safe : Each Safe rows
-  unfolding answerRow effected checkClear localNow
+  unfolding answerRow effected checkClear readStatus localNow
   all-safe =
-      (λ h. absurd (h .2 (refl, refl))) ▹ (λ _ _. row-kept _ (checks (st .split) .0)) ▹ (λ h. absurd (h .3 (refl, refl))) ▹ (λ _ _. row-kept _ (checks (st .split) .1)) ▹
-      (λ h. absurd (h .4 (refl, refl))) ▹
-      (λ _ _. row-kept _ (pick-all Reacts _ _ _ (λ _. refl) (λ _. pick-all Reacts (isOwed (inOf st)) _ _ (λ _. refl) (λ _. refl)))) ▹
-      (λ _ _. row-kept _ refl) ▹ (λ _ _. row-kept _ refl) ▹ (λ _ _. row-kept _ refl) ▹
-      (λ _ ren. row-kept _ (pick-all Kept (on ren) _ _ (λ _. refl) (λ _. refl))) ▹
-      (λ _ _. row-kept _ refl) ▹ (λ _ _. row-kept _ refl) ▹
-      (λ h. absurd (h .1 refl)) ▹ (λ h. absurd (h .1 refl)) ▹ (λ h. absurd (h .1 refl)) ▹ (λ h. absurd (h .1 refl)) ▹
-      (λ _ _. row-kept _ refl) ▹ (λ _ _. row-kept _ refl) ▹ (λ h. absurd (h .0 refl)) ▹ tt
+      (omega arith, λ h. absurd (h .2 (refl, refl))) ▹ (omega arith, λ _ _. row-kept _ (checks (st .split) .0)) ▹
+      (omega arith, λ h. absurd (h .3 (refl, refl))) ▹ (omega arith, λ _ _. row-kept _ (checks (st .split) .1)) ▹
+      (omega arith, λ h. absurd (h .4 (refl, refl))) ▹
+      (omega arith, λ _ _. row-kept _ (pick-all Reacts _ _ _ (λ _. refl) (λ _. pick-all Reacts (isOwed (inOf st)) _ _ (λ _. refl) (λ _. refl)))) ▹
+      (omega arith, λ _ _. row-kept _ refl) ▹ (omega arith, λ _ _. row-kept _ refl) ▹
+      (omega arith, λ _ tag. row-kept _ (pick-all Reacts (isWaiting (interruptOf st)) _ _ (λ _. refl) (λ _. refl))) ▹
+      (omega arith, λ _ ren. row-kept _ (pick-all Kept (on ren) _ _ (λ _. refl) (λ _. refl))) ▹
+      (omega arith, λ _ _. row-kept _ refl) ▹ (omega arith, λ _ _. row-kept _ refl) ▹
+      (omega arith, λ h. absurd (other (h .1 refl) (omega arith))) ▹ (omega arith, λ h. absurd (other (h .1 refl) (omega arith))) ▹ (omega arith, λ _ _. row-kept _ refl) ▹
+      (omega arith, λ h. absurd (other (h .1 refl) (omega arith))) ▹ (omega arith, λ h. absurd (other (h .1 refl) (omega arith))) ▹ (omega arith, λ _ _. row-kept _ refl) ▹
+      (omega arith, λ _ _. row-kept _ refl) ▹ (omega arith, λ _ _. row-kept _ refl) ▹ (omega arith, λ _ _. row-kept _ refl) ▹
+      (omega arith, λ h. absurd (h .0 refl)) ▹ tt
+    where
+      -- an endpoint below 0x83
+      other : {n : ℕ} → n ≡ 0x83 → n < 0x83 → ⊥
+      other e l = omega arith
 
-  setup-kept : (s : List ℕ) (room : ℕ) → Harmless (at s 0) (at s 1) → Kept (setup u s room .unit .state)
+  setup-kept : (s : List ℕ) (room : ℕ) → Harmless (at s 0) (at s 1) (at s 4) → Kept (setup u s room .unit .state)
   unfolding setup setupOutcome answered asks-for
   setup-kept s room h =
       decide-all Leaves Denies (setupRules (length s) room) _ (refl, tt)
@@ -148,8 +158,11 @@ module _ (u : Device) where
     where
       found : Found s Safe (readSetup s) → Leaves (asks-for st (readSetup s))
       found f =
+          let index : at s 4 ≡ f .row .0 .index = let l = f .holds .0 in let e = f .fits .index in omega arith in
+          let row = f .row .0 in
           subst (λ (x : Setup). Leaves (asks-for st x)) (sym (f .asks))
-          (f .holds (subst (λ (n : ℕ). Harmless n (f .row .0 .request)) (f .fits .type) (subst (Harmless (at s 0)) (f .fits .request) h)) _)
+          (f .holds .1 (subst (λ (n : ℕ). Harmless n (row .request) (row .index)) (f .fits .type)
+          (subst (λ (n : ℕ). Harmless (at s 0) n (row .index)) (f .fits .request) (subst (Harmless (at s 0) (at s 1)) index h))) _)
 
   -- one that is refused
   refused-kept : (s : List ℕ) (room : ℕ) → Not (setup u s room .answer .verdict .number ≡ 0) → Kept (setup u s room .unit .state)
@@ -315,6 +328,7 @@ module _ (u : Device) (r : Reader) (stored : Stored u) (sound : isSound u ≡ tr
   answers (take-into room) m g = (tt, take-kept u room (λ e. let z = steady .unready in omega arith))
   answers bus-reset m g = absurd m
   answers (quiet (in-poll room)) m g = (poll-due room _ m g (r .unsent) (r .line) refl (agreed .line), quiet-kept u (in-poll room))
+  answers (quiet (interrupt-poll room)) m g = (tt, quiet-kept u (interrupt-poll room))
   answers (quiet (offer-reply bytes)) m g = (offer-due bytes _ g, quiet-kept u (offer-reply bytes))
   answers (quiet (set-status status)) m g = (tt, quiet-kept u (set-status status))
   answers (quiet front-panel) m g = (tt, quiet-kept u front-panel)
@@ -360,7 +374,7 @@ reply-arrives u calls ready = arriving (packetSize (u .state)) u unread calls (r
 keeps-reply : (P : ℕ) (r : Reader) (c : Call) (a : Answer) → MayCome P r c a → Not (Drops r c a)
 keeps-reply P r (setup-packet p) a (inl n) d = n (d .0)
 keeps-reply P r (setup-packet p) a (inr h) d =
-    ⊎-elim (h .0) (⊎-elim (λ e. h .3 (e .0, e .1)) (⊎-elim (λ e. h .4 (e .0, e .1)) (λ e. h .1 (e .0)))) (d .1)
+    ⊎-elim (h .0) (⊎-elim (λ e. h .3 (e .0, e .1)) (⊎-elim (λ e. h .4 (e .0, e .1)) (λ e. let i = h .1 (e .0) in let j = e .2 in omega arith))) (d .1)
 keeps-reply P r (out-packet s) a m d = d
 keeps-reply P r (take-into room) a m d = d
 keeps-reply P r bus-reset a m d = m

@@ -8,18 +8,19 @@ use lib.ListN.{length}
 use Rattle.rules.specs.Choice.{no}
 use Rattle.rules.specs.Answers.{DONE, only}
 use Rattle.rules.proofs.Choice.{pick-all, decide-all}
-use Rattle.wire.specs.declared.types.Endpoint.the-variants.{Out, In}
+use Rattle.wire.specs.declared.types.Endpoint.the-variants.{Out, In, Interrupt}
 use Rattle.wire.specs.declared.types.Row.{Row}
 use Rattle.wire.specs.declared.types.Row.the-variants.{InitiateAbortBulkOut, CheckAbortBulkOutStatus, InitiateAbortBulkIn, CheckAbortBulkInStatus, InitiateClear, CheckClearStatus, GetCapabilities, IndicatorPulse, ReadStatusByte, RenControl, GoToLocal, LocalLockout, ClearFeature, SetFeature, GetStatus}
-use Rattle.port.specs.Parts.{on, isOpenOut, isOpenIn, isOwed, isClear, packetSize, outOf, inOf, isConfigured}
+use Rattle.port.specs.Parts.{on, isOpenOut, isOpenIn, isOwed, isClear, packetSize, outOf, inOf, interruptOf, isConfigured}
 use Rattle.port.specs.Remote.{localNow}
 use Rattle.port.specs.Answer.{Said, refuse}
 use Rattle.port.specs.Out.{plain}
 use Rattle.port.specs.In.{inRules, poll}
-use Rattle.port.specs.Rows.{Reaction, answering, abortRules, outTag, inTag, initiateAbortOut, initiateAbortIn, checkAbortOut, checkAbortIn, initiateClear, checkClear, answerRow, effected}
+use Rattle.port.specs.Interrupt.{isWaiting, interruptRules, interruptPoll}
+use Rattle.port.specs.Rows.{Reaction, answering, abortRules, outTag, inTag, initiateAbortOut, initiateAbortIn, checkAbortOut, checkAbortIn, initiateClear, checkClear, readStatus, answerRow, effected}
 use Rattle.port.specs.Device.{Device, withState}
-use Rattle.port.specs.Calls.{bulkIn, offerRules, offerPlan, withReply, offer, thermostatRules, statusSet, setStatus, returned, panel, suspend}
-use Rattle.port.specs.Step.{Quiet, in-poll, offer-reply, set-status, front-panel, bus-suspend, quietly}
+use Rattle.port.specs.Calls.{bulkIn, interruptIn, offerRules, offerPlan, withReply, offer, thermostatRules, statusSet, setStatus, returned, panel, suspend}
+use Rattle.port.specs.Step.{Quiet, in-poll, interrupt-poll, offer-reply, set-status, front-panel, bus-suspend, quietly}
 use Rattle.port.specs.Breaks.{breaksRow}
 use Rattle.port.specs.declared.types.BulkOut.{BulkOut}
 use Rattle.port.specs.declared.types.Split.{Split}
@@ -52,7 +53,7 @@ module _ (u : Device) where
   Calm r = Stays (λ _. false) r
 
   pub row-kept : (row : Row) → Stays (breaksRow row) (answerRow st row)
-  unfolding answerRow initiateAbortOut initiateAbortIn checkAbortOut checkAbortIn initiateClear checkClear effected localNow
+  unfolding answerRow initiateAbortOut initiateAbortIn checkAbortOut checkAbortIn initiateClear checkClear readStatus effected localNow
   row-kept (InitiateAbortBulkOut tag) =
       decide-all (Stays (breaksRow (InitiateAbortBulkOut tag))) (λ status. answering (status ∷ outTag (outOf st) ∷ [])) (abortRules (st .split) (isOpenOut (outOf st)) (outTag (outOf st)) tag) _
       ((refl, λ _. refl), ((refl, λ _. refl), ((refl, λ _. refl), tt)))
@@ -78,14 +79,16 @@ module _ (u : Device) where
   row-kept CheckClearStatus = pick-all Calm (no (isClear (st .split))) _ _ (λ _. (refl, λ _. refl)) (λ _. pick-all Calm (isOwed (inOf st)) _ _ (λ _. (refl, λ _. refl)) (λ _. (refl, λ _. refl)))
   row-kept GetCapabilities = (refl, λ _. refl)
   row-kept IndicatorPulse = (refl, λ _. refl)
-  row-kept (ReadStatusByte tag) = (refl, λ _. refl)
+  row-kept (ReadStatusByte tag) = pick-all Calm (isWaiting (interruptOf st)) _ _ (λ _. (refl, λ _. refl)) (λ _. (refl, λ _. refl))
   row-kept (RenControl ren) = (refl, λ _. pick-all (λ (s : State). Kept (withState u s)) (on ren) _ _ (λ _. refl) (λ _. refl))
   row-kept GoToLocal = (refl, λ _. refl)
   row-kept LocalLockout = (refl, λ _. refl)
   row-kept (ClearFeature Out) = (refl, λ e. absurd (true≢false e))
   row-kept (ClearFeature In) = (refl, λ _. refl)
+  row-kept (ClearFeature Interrupt) = (refl, λ _. refl)
   row-kept (SetFeature Out) = (refl, λ e. absurd (true≢false e))
   row-kept (SetFeature In) = (refl, λ _. refl)
+  row-kept (SetFeature Interrupt) = (refl, λ _. refl)
   row-kept (GetStatus endpoint) = (refl, λ _. refl)
 
   abbrev Said-kept : Said → Type 0
@@ -93,8 +96,9 @@ module _ (u : Device) where
 
   -- a call that brings, takes and breaks no message
   pub quiet-kept : (q : Quiet) → Kept (quietly u q .unit)
-  unfolding quietly bulkIn poll offer offerPlan setStatus statusSet panel returned suspend localNow
+  unfolding quietly bulkIn poll interruptIn interruptPoll offer offerPlan setStatus statusSet panel returned suspend localNow
   quiet-kept (in-poll room) = decide-all Said-kept (refuse st) (inRules st room) _ (refl, (refl, (refl, (refl, tt)))) (λ _. refl)
+  quiet-kept (interrupt-poll room) = decide-all Said-kept (refuse st) (interruptRules st room) _ (refl, (refl, (refl, (refl, tt)))) (λ _. refl)
   quiet-kept (offer-reply bytes) = decide-all (λ (p : Plan). Kept (withReply u bytes p .unit)) (λ n. plain st (only n)) (offerRules st (length bytes)) _ (refl, (refl, (refl, tt))) (λ _. refl)
   quiet-kept (set-status status) = decide-all Said-kept (refuse st) (thermostatRules st) _ (refl, tt) (λ _. refl)
   quiet-kept front-panel = decide-all Said-kept (refuse st) (thermostatRules st) _ (refl, tt) (λ _. refl)

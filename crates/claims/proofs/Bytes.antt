@@ -8,7 +8,7 @@ use native.Mathlib.Omega.{arith}
 use borrow.Author.Tests.{ltb-true}
 use Rattle.rules.specs.Choice.{_<ᵇ_, _and_}
 use Rattle.rules.proofs.Choice.{both-left, both-right}
-use Rattle.port.specs.Step.{Quiet, in-poll, offer-reply, set-status, front-panel, bus-suspend, Call, setup-packet, out-packet, take-into, bus-reset, quiet}
+use Rattle.port.specs.Step.{Quiet, in-poll, interrupt-poll, offer-reply, set-status, front-panel, bus-suspend, Call, setup-packet, out-packet, take-into, bus-reset, quiet}
 use Rattle.port.specs.Trace.{Octets, QuietInOctets, InOctets, AllInOctets}
 
 abbrev pub small : List ℕ → Bool
@@ -22,6 +22,7 @@ octets-of (b ∷ s) e (suc i) = octets-of s (both-right (b <ᵇ 256) (small s) e
 
 abbrev smallQuiet : Quiet → Bool
 smallQuiet (in-poll room) = true
+smallQuiet (interrupt-poll room) = true
 smallQuiet (offer-reply bytes) = small bytes
 smallQuiet (set-status status) = status <ᵇ 256
 smallQuiet front-panel = true
@@ -40,6 +41,7 @@ smallCalls (c ∷ cs) = smallCall c and smallCalls cs
 
 quiet-octets : (q : Quiet) → smallQuiet q ≡ true → QuietInOctets q
 quiet-octets (in-poll room) e = tt
+quiet-octets (interrupt-poll room) e = tt
 quiet-octets (offer-reply bytes) e = octets-of bytes e
 quiet-octets (set-status status) e = ltb-true status 256 e
 quiet-octets front-panel e = tt

@@ -18,7 +18,7 @@ use Rattle.wire.specs.declared.types.Endpoint.the-variants.{Out}
 use Rattle.wire.specs.declared.types.Row.the-variants.{CheckClearStatus, SetFeature}
 use Rattle.wire.specs.declared.types.Setup.{Setup}
 use Rattle.wire.specs.declared.types.Setup.the-variants.{Configure, Asks}
-use Rattle.port.specs.Parts.{STORE, CLOSED, OWED, isSize, isOwed, isClear, packetSize, portOf, outOf, inOf, isConfigured, transferIn, closedIn, withSplit, emptyOut, emptyIn, fresh, broken, haltedOut}
+use Rattle.port.specs.Parts.{STORE, CLOSED, OWED, isSize, isOwed, isClear, packetSize, portOf, outOf, inOf, interruptOf, isConfigured, transferIn, closedIn, withSplit, emptyOut, emptyIn, fresh, broken, haltedOut}
 use Rattle.port.specs.Sound.{sound}
 use Rattle.port.specs.Rows.{Reaction, answering, checkClear, answerRow, effected, reacted}
 use Rattle.port.specs.Device.{Device, Result, isSound, withState, zeroed, made, powerOn}
@@ -190,9 +190,10 @@ module _ (u : Device) (control : ℕ) (h : Sound (u .state)) (r : Result) (c : C
   to-made = λ i. record {
     state = record {
       small = record {
-        port = record { setting = portOf (u .state) .setting; configured = eqb-true (portOf (u .state) .configured) 1 (c .configured) i; ren = portOf (u .state) .ren; status = portOf (u .state) .status };
+        port = record { setting = portOf (u .state) .setting; configured = eqb-true (portOf (u .state) .configured) 1 (c .configured) i; ren = portOf (u .state) .ren };
         bulkout = out-is i;
         bulkin = in-is i;
+        interrupt = interruptOf (u .state);
       };
       split = None;
       remote = u .state .remote;

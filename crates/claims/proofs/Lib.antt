@@ -23,6 +23,8 @@ pub mod Parse
 pub mod Teeth
 pub mod Wrong
 pub mod Replies
+pub mod Service
+pub mod ServiceTeeth
 pub mod Arriving
 pub mod ReplyTeeth
 pub mod Ever

@@ -3,6 +3,7 @@
 use Rattle.port.specs.Step.{step}
 use Rattle.port.proofs.Clearing.{clear-reached, clear-reached-polled, clear-reached-halted, survive}
 use Rattle.port.proofs.Replies.{replies-read}
+use Rattle.port.proofs.Service.{status-told}
 use Rattle.port.proofs.When.{rule-for-every}
 use Rattle.claims.specs.Claims.{Claimed}
 use Rattle.claims.proofs.Acted.{acts-only-on, acts-only-on-ever}
@@ -13,6 +14,7 @@ use Rattle.claims.proofs.Cleared.{clean-after-fault, clean-after-any-fa
 use Rattle.claims.proofs.Ever.{whole-command-ever}
 use Rattle.claims.proofs.Handed.{no-half-command, no-half-command-ever}
 use Rattle.claims.proofs.Replies.{read-back}
+use Rattle.claims.proofs.Service.{no-request-lost, status-comes, none-made-up}
 
 pub ours : Claimed step
 ours = record {
@@ -34,4 +36,8 @@ ours = record {
   read-back = read-back;
   reply-arrives = reply-arrives;
   whole-reply = whole-reply;
+  status-told = status-told;
+  no-request-lost = no-request-lost;
+  status-comes = status-comes;
+  none-made-up = none-made-up;
 }

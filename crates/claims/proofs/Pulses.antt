@@ -18,8 +18,9 @@ use Rattle.wire.specs.declared.types.Row.the-variants.{InitiateAbortBulkOut, Ch
 use Rattle.wire.specs.declared.types.Setup.{Setup}
 use Rattle.wire.specs.declared.types.Setup.the-variants.{Configure, Asks, NoRow}
 use Rattle.wire.proofs.When.{setup-law}
-use Rattle.port.specs.Parts.{isOpenOut, isOpenIn, isOwed, isClear, outOf, inOf, isConfigured}
-use Rattle.port.specs.Rows.{Reaction, answering, abortRules, outTag, inTag, initiateAbortOut, initiateAbortIn, checkAbortOut, checkAbortIn, initiateClear, checkClear, answerRow}
+use Rattle.port.specs.Parts.{isOpenOut, isOpenIn, isOwed, isClear, outOf, inOf, interruptOf, isConfigured}
+use Rattle.port.specs.Interrupt.{isWaiting}
+use Rattle.port.specs.Rows.{Reaction, answering, abortRules, outTag, inTag, initiateAbortOut, initiateAbortIn, checkAbortOut, checkAbortIn, initiateClear, checkClear, readStatus, answerRow}
 use Rattle.port.specs.Device.{Device, Result, isSound}
 use Rattle.port.specs.Calls.{setupRules, asked, setupOutcome, answered, setup}
 use Rattle.port.specs.Step.{SetupPacket, setup-packet, soundly, step}
@@ -106,7 +107,7 @@ only-pulse s x m e = by m
     by (inr (inr (inr (inr (inr (inr (inl k))))))) = row (take 1 (drop 6 rows)) ((λ _. refl), tt) (inl k)
     by (inr (inr (inr (inr (inr (inr (inr (inl k)))))))) = k .0
     by (inr (inr (inr (inr (inr (inr (inr (inr m)))))))) =
-        row (drop 8 rows) ((λ _. refl), ((λ _. refl), ((λ _. refl), ((λ _. refl), ((λ _. refl), ((λ _. refl), ((λ _. refl), ((λ _. refl), ((λ _. refl), ((λ _. refl), ((λ _. refl), tt))))))))))) m
+        row (drop 8 rows) ((λ _. refl), ((λ _. refl), ((λ _. refl), ((λ _. refl), ((λ _. refl), ((λ _. refl), ((λ _. refl), ((λ _. refl), ((λ _. refl), ((λ _. refl), ((λ _. refl), ((λ _. refl), ((λ _. refl), ((λ _. refl), tt)))))))))))))) m
 
 eight : (s : List ℕ) → length s ≡ 8 → s ≡ at s 0 ∷ at s 1 ∷ at s 2 ∷ at s 3 ∷ at s 4 ∷ at s 5 ∷ at s 6 ∷ at s 7 ∷ []
 eight (a ∷ b ∷ c ∷ d ∷ e ∷ f ∷ g ∷ h ∷ []) n = refl
@@ -160,7 +161,7 @@ module _ (st : State) where
   Says row r = (r .answer .verdict .number ≡ 0) × (r .answer .verdict .tells ≡ pulse row)
 
   row-tells : (row : Row) → Says row (answerRow st row)
-  unfolding answerRow initiateAbortOut initiateAbortIn checkAbortOut checkAbortIn initiateClear checkClear
+  unfolding answerRow initiateAbortOut initiateAbortIn checkAbortOut checkAbortIn initiateClear checkClear readStatus
   row-tells (InitiateAbortBulkOut tag) =
       decide-all (Says (InitiateAbortBulkOut tag)) (λ status. answering (status ∷ outTag (outOf st) ∷ [])) (abortRules (st .split) (isOpenOut (outOf st)) (outTag (outOf st)) tag) _
       ((refl, refl), ((refl, refl), ((refl, refl), tt))) (λ _. (refl, refl))
@@ -186,7 +187,7 @@ module _ (st : State) where
       pick-all (Says CheckClearStatus) (no (isClear (st .split))) _ _ (λ _. (refl, refl)) (λ _. pick-all (Says CheckClearStatus) (isOwed (inOf st)) _ _ (λ _. (refl, refl)) (λ _. (refl, refl)))
   row-tells GetCapabilities = (refl, refl)
   row-tells IndicatorPulse = (refl, refl)
-  row-tells (ReadStatusByte tag) = (refl, refl)
+  row-tells (ReadStatusByte tag) = pick-all (Says (ReadStatusByte tag)) (isWaiting (interruptOf st)) _ _ (λ _. (refl, refl)) (λ _. (refl, refl))
   row-tells (RenControl ren) = (refl, refl)
   row-tells GoToLocal = (refl, refl)
   row-tells LocalLockout = (refl, refl)

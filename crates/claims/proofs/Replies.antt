@@ -18,7 +18,7 @@ use Rattle.wire.specs.When.{at}
 use Rattle.port.specs.Parts.{packetSize}
 use Rattle.port.specs.Answer.{Answer}
 use Rattle.port.specs.Device.{Device, isSound, powerOn}
-use Rattle.port.specs.Step.{in-poll, offer-reply, set-status, front-panel, bus-suspend, Call, setup-packet, out-packet, take-into, bus-reset, quiet, step}
+use Rattle.port.specs.Step.{in-poll, interrupt-poll, offer-reply, set-status, front-panel, bus-suspend, Call, setup-packet, out-packet, take-into, bus-reset, quiet, step}
 use Rattle.port.specs.Trace.{Event}
 use Rattle.port.specs.Reply.{Asked, portion, inTransfer, cutIn, inPackets, InLine, shut, owing, asked, sending, Reader, unread, requestsNow, afterPacket, remaining, tail, afterPoll, closedBy}
 use Rattle.port.specs.Reply.{owingNow, aborted, cleared, byBytes, afterSetup, afterCall, FirstOf, Polled, Closed, Expects, Reading}
@@ -182,6 +182,7 @@ module _ (P : ℕ) (big : 12 ≤ P) (r : Reader) where
   once (take-into room) a x d = append-nil (toCome r)
   once bus-reset a x d = append-nil (toCome r) ∙ sym (pick-all Same (a .verdict .number =ᵇ 0) _ _ (λ e. absurd (d (eqb-true _ _ e))) (λ _. refl))
   once (quiet (in-poll room)) a x d = poll-once room a x
+  once (quiet (interrupt-poll room)) a x d = append-nil (toCome r)
   once (quiet (offer-reply bytes)) a x d = offer-once bytes a x
   once (quiet (set-status status)) a x d = append-nil (toCome r)
   once (quiet front-panel) a x d = append-nil (toCome r)

@@ -13,7 +13,7 @@ use Rattle.wire.specs.Header.{OFF, ON}
 use Rattle.port.specs.Parts.{STORE, inOf, closedIn, withIn, emptyIn}
 use Rattle.port.specs.Device.{Device, Result, withState, made}
 use Rattle.port.specs.Calls.{refused}
-use Rattle.port.specs.Step.{in-poll, offer-reply, set-status, front-panel, bus-suspend, Call, setup-packet, out-packet, take-into, bus-reset, quiet, setup-of, Stepping, step}
+use Rattle.port.specs.Step.{in-poll, interrupt-poll, offer-reply, set-status, front-panel, bus-suspend, Call, setup-packet, out-packet, take-into, bus-reset, quiet, setup-of, Stepping, step}
 use Rattle.port.specs.Trace.{Event, trace}
 use Rattle.port.specs.Idle.{constant, refusing}
 use Rattle.port.specs.Reply.{portion, flags, inTransfer, inPackets, unread, afterPacket, afterSetup, Reading}
@@ -135,6 +135,7 @@ polling does u (out-packet s) = step u (out-packet s)
 polling does u (take-into room) = step u (take-into room)
 polling does u bus-reset = step u bus-reset
 polling does u (quiet (in-poll room)) = does u room
+polling does u (quiet (interrupt-poll room)) = step u (quiet (interrupt-poll room))
 polling does u (quiet (offer-reply bytes)) = step u (quiet (offer-reply bytes))
 polling does u (quiet (set-status status)) = step u (quiet (set-status status))
 polling does u (quiet front-panel) = step u (quiet front-panel)

@@ -9,9 +9,9 @@ use borrow.Author.Tests.{eqb-true}
 use Rattle.rules.specs.Choice.{_=ᵇ_, _and_, pick, _⇒_∣_, first}
 use Rattle.rules.proofs.Choice.{pick-all, at-true, at-false}
 use Rattle.wire.specs.Bytes.{byte}
-use Rattle.wire.specs.Setup.{wIndex, BULK-OUT, BULK-IN, row, byEndpoint, toEndpoint, toInterface, toFeature, toStatus, toDevice, readSetup}
+use Rattle.wire.specs.Setup.{wIndex, BULK-OUT, BULK-IN, INTERRUPT-IN, row, byEndpoint, toEndpoint, toInterface, toFeature, toStatus, toDevice, readSetup}
 use Rattle.wire.specs.declared.types.Endpoint.{Endpoint}
-use Rattle.wire.specs.declared.types.Endpoint.the-variants.{Out, In}
+use Rattle.wire.specs.declared.types.Endpoint.the-variants.{Out, In, Interrupt}
 use Rattle.wire.specs.declared.types.Row.{Row}
 use Rattle.wire.specs.declared.types.Row.the-variants.{InitiateAbortBulkOut, CheckAbortBulkOutStatus, InitiateAbortBulkIn, CheckAbortBulkInStatus, InitiateClear, CheckClearStatus, GetCapabilities, IndicatorPulse, ReadStatusByte, RenControl, GoToLocal, LocalLockout, ClearFeature, SetFeature, GetStatus}
 use Rattle.wire.specs.declared.types.Setup.{Setup}
@@ -52,8 +52,10 @@ inRow GoToLocal a = nothing
 inRow LocalLockout a = nothing
 inRow (ClearFeature Out) a = broken-off
 inRow (ClearFeature In) a = nothing
+inRow (ClearFeature Interrupt) a = nothing
 inRow (SetFeature Out) a = broken-off
 inRow (SetFeature In) a = nothing
+inRow (SetFeature Interrupt) a = nothing
 inRow (GetStatus endpoint) a = nothing
 
 -- a packet that matches no row is refused
@@ -71,10 +73,12 @@ asks s fits asked k = pick-all (Told s) fits _ _ (λ _. k) (λ _. tt)
 
 by-endpoint : (s : List ℕ) (size : ℕ) (asked : Endpoint → Row)
     → (byte s 4 ≡ 0x01 → (a : Answer) → inBytes s a ≡ inRow (asked Out) a)
-    → (byte s 4 ≡ 0x82 → (a : Answer) → inBytes s a ≡ inRow (asked In) a) → Told s (byEndpoint s size asked)
-by-endpoint s size asked k l =
+    → (byte s 4 ≡ 0x82 → (a : Answer) → inBytes s a ≡ inRow (asked In) a)
+    → (byte s 4 ≡ 0x83 → (a : Answer) → inBytes s a ≡ inRow (asked Interrupt) a) → Told s (byEndpoint s size asked)
+by-endpoint s size asked k l m =
     pick-all (Told s) _ _ _ (λ e. let i : wIndex s ≡ BULK-OUT = eqb-true _ _ e in asks s _ _ (k (omega arith)))
-    (λ _. pick-all (Told s) _ _ _ (λ e. let i : wIndex s ≡ BULK-IN = eqb-true _ _ e in asks s _ _ (l (omega arith))) (λ _. tt))
+    (λ _. pick-all (Told s) _ _ _ (λ e. let i : wIndex s ≡ BULK-IN = eqb-true _ _ e in asks s _ _ (l (omega arith)))
+    (λ _. pick-all (Told s) _ _ _ (λ e. let i : wIndex s ≡ INTERRUPT-IN = eqb-true _ _ e in asks s _ _ (m (omega arith))) (λ _. tt)))
 
 -- bytes 0 and 1 of each row
 aborts : (i : ℕ) (a : Answer) → (byBytes 0xA2 1 i a ≡ succeeding a broken-off) × (byBytes 0xA2 2 i a ≡ nothing) × (byBytes 0xA2 3 i a ≡ nothing)
@@ -91,9 +95,9 @@ others : (i : ℕ) (a : Answer) → (byBytes 0xA1 7 i a ≡ nothing) × (byBytes
 unfolding pick _and_
 others i a = (refl, refl, refl, refl, refl, refl)
 
-features : (q : ℕ) (a : Answer) → (byBytes 0x02 q 0x01 a ≡ broken-off) × (byBytes 0x02 q 0x82 a ≡ nothing)
+features : (q : ℕ) (a : Answer) → (byBytes 0x02 q 0x01 a ≡ broken-off) × (byBytes 0x02 q 0x82 a ≡ nothing) × (byBytes 0x02 q 0x83 a ≡ nothing)
 unfolding pick _and_
-features q a = (refl, refl)
+features q a = (refl, refl, refl)
 
 plain : (i : ℕ) (a : Answer) → (byBytes 0x82 0 i a ≡ nothing) × (byBytes 0x00 9 i a ≡ wiped-out)
 unfolding pick _and_
@@ -127,15 +131,25 @@ module _ (s : List ℕ) where
   feature-row : byte s 0 ≡ 0x02 → Told s (toFeature s)
   unfolding toFeature
   feature-row e =
-      pick-all (Told s) _ _ _ (λ _. by-endpoint s 0 ClearFeature (λ i a. at-index 0x01 a i ∙ features (byte s 1) a .0) (λ i a. at-index 0x82 a i ∙ features (byte s 1) a .1))
-      (λ _. pick-all (Told s) _ _ _ (λ _. by-endpoint s 0 SetFeature (λ i a. at-index 0x01 a i ∙ features (byte s 1) a .0) (λ i a. at-index 0x82 a i ∙ features (byte s 1) a .1)) (λ _. tt))
+      pick-all (Told s) _ _ _ (λ _. by-endpoint s 0 ClearFeature out inward interrupt) (λ _. pick-all (Told s) _ _ _ (λ _. by-endpoint s 0 SetFeature out inward interrupt) (λ _. tt))
     where
       at-index : (i : ℕ) (a : Answer) → byte s 4 ≡ i → inBytes s a ≡ byBytes 0x02 (byte s 1) i a
       at-index i a g = by _ _ _ 0x02 (byte s 1) i a e refl g
 
+      out : byte s 4 ≡ 0x01 → (a : Answer) → inBytes s a ≡ broken-off
+      out i a = at-index 0x01 a i ∙ features (byte s 1) a .0
+
+      inward : byte s 4 ≡ 0x82 → (a : Answer) → inBytes s a ≡ nothing
+      inward i a = at-index 0x82 a i ∙ features (byte s 1) a .1
+
+      interrupt : byte s 4 ≡ 0x83 → (a : Answer) → inBytes s a ≡ nothing
+      interrupt i a = at-index 0x83 a i ∙ features (byte s 1) a .2
+
   status-row : byte s 0 ≡ 0x82 → Told s (toStatus s)
   unfolding toStatus
-  status-row e = pick-all (Told s) _ _ _ (λ f. by-endpoint s 2 GetStatus (λ _ a. these 0x82 0 a e f ∙ plain (byte s 4) a .0) (λ _ a. these 0x82 0 a e f ∙ plain (byte s 4) a .0)) (λ _. tt)
+  status-row e =
+      pick-all (Told s) _ _ _
+      (λ f. let none : (a : Answer) → inBytes s a ≡ nothing = λ a. these 0x82 0 a e f ∙ plain (byte s 4) a .0 in by-endpoint s 2 GetStatus (λ _. none) (λ _. none) (λ _. none)) (λ _. tt)
 
   device-row : byte s 0 ≡ 0x00 → Told s (toDevice s)
   unfolding toDevice

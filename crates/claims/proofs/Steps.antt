@@ -17,7 +17,7 @@ use Rattle.wire.specs.Setup.{readSetup}
 use Rattle.wire.specs.When.{fourAt}
 use Rattle.wire.specs.declared.types.Header.{Header}
 use Rattle.wire.specs.declared.types.Header.the-variants.{Message, Request, Trigger}
-use Rattle.wire.specs.declared.types.Endpoint.the-variants.{Out, In}
+use Rattle.wire.specs.declared.types.Endpoint.the-variants.{Out, In, Interrupt}
 use Rattle.wire.specs.declared.types.Row.{Row}
 use Rattle.wire.specs.declared.types.Row.the-variants.{InitiateAbortBulkOut, CheckAbortBulkOutStatus, InitiateAbortBulkIn, CheckAbortBulkInStatus, InitiateClear, CheckClearStatus, GetCapabilities, IndicatorPulse, ReadStatusByte, RenControl, GoToLocal, LocalLockout, ClearFeature, SetFeature, GetStatus}
 use Rattle.wire.specs.declared.types.Setup.{Setup}
@@ -121,14 +121,16 @@ module _ (u : Device) (stored : Stored u) (sound : isSound u ≡ true) where
   row-goes CheckClearStatus = calm CheckClearStatus refl
   row-goes GetCapabilities = refl
   row-goes IndicatorPulse = refl
-  row-goes (ReadStatusByte tag) = refl
+  row-goes (ReadStatusByte tag) = calm (ReadStatusByte tag) refl
   row-goes (RenControl ren) = calm (RenControl ren) refl
   row-goes GoToLocal = refl
   row-goes LocalLockout = refl
   row-goes (ClearFeature Out) = breaks _
   row-goes (ClearFeature In) = refl
+  row-goes (ClearFeature Interrupt) = refl
   row-goes (SetFeature Out) = breaks ON
   row-goes (SetFeature In) = refl
+  row-goes (SetFeature Interrupt) = refl
   row-goes (GetStatus endpoint) = refl
 
   module _ (p : SetupPacket) where

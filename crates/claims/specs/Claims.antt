@@ -13,6 +13,7 @@ use Rattle.port.specs.Step.{Call, setup-of, Stepping, step, run, after}
 use Rattle.port.specs.Trace.{trace, AllInOctets}
 use Rattle.port.specs.When.{RuleForEvery}
 use Rattle.port.specs.Reply.{RepliesRead}
+use Rattle.port.specs.Service.{StatusTold}
 use Rattle.port.specs.Live.{live}
 use Rattle.port.specs.Survivors.{survivors}
 use Rattle.port.specs.Laws.{Stored, CHECK-CLEAR-STATUS, Succeeds, ClearReached, ClearReachedPolled, ClearReachedHalted, Survive}
@@ -23,6 +24,7 @@ use Rattle.claims.specs.Handed.{AllBrought, AllBroughtFrom, begun}
 use Rattle.claims.specs.Acted.{Acting}
 use Rattle.claims.specs.Arrival.{older, coming, Arrives, NoBreaks, Waiting, stageOf}
 use Rattle.claims.specs.Replies.{ReadBack, ReplyArrives, WholeReply}
+use Rattle.claims.specs.Service.{NoRequestLost, StatusComes, NoneMadeUp}
 use Rattle.claims.specs.Fresh.{CLEAR-FEATURE-OUT, GET-STATUS-OUT, freshUnit}
 
 -- ** "Can a half-sent command ever be acted on?" Whenever a message is handed over, the packets that the port accepted for it are exactly those of one
@@ -64,7 +66,7 @@ WholeCommandEver does = (setting : Setting) (before : List Call) (control : ℕ)
     → Arrives P (command pieces) (older (sending P pieces)) (trace does u calls) ⊎ Arrives P (command pieces) (coming (sending P pieces)) (trace does u calls)
 
 -- ** "How do we know that the port is clean after a fault without pulling the plug?" Once CHECK_CLEAR_STATUS has answered SUCCESS, every later answer is
--- that of the fresh unit with the four survivors as they stood, and the two units agree in all that counts, then and after every later call.
+-- that of the fresh unit with the seven survivors as they stood, and the two units agree in all that counts, then and after every later call.
 -- Shuts out: a port that keeps anything of before the clear
 
 abbrev pub Clean : Stepping → Device → ℕ → List Call → Type 0
@@ -93,8 +95,9 @@ CommandAfterClear does = (u : Device) (control feature : ℕ) (between : List Ca
     NoBreaks (trace does v between) → AllInOctets between → w .answer .verdict .number ≡ 0
     → Sendable pieces → AllInOctets calls → Arrives P (command pieces) (coming (sending P pieces)) (trace does (w .unit) calls)
 
--- ** all of it; with "Is there a packet that the port has no rule for?" (port, RuleForEvery), that SUCCESS is reached and four things survive (port,
--- Laws), and that the setpoint read back is the one that was offered (port, RepliesRead; Replies)
+-- ** all of it; with "Is there a packet that the port has no rule for?" (port, RuleForEvery), that SUCCESS is reached and seven things survive (port,
+-- Laws), that the setpoint read back is the one that was offered (port, RepliesRead; Replies), and that the bench is told on 0x83 what it is to be told
+-- (port, StatusTold; Service)
 
 pub record Claimed (does : Stepping) : Type 0 where
   pub no-half-command : NoHalfCommand does
@@ -115,3 +118,7 @@ pub record Claimed (does : Stepping) : Type 0 where
   pub read-back : ReadBack does
   pub reply-arrives : ReplyArrives does
   pub whole-reply : WholeReply does
+  pub status-told : StatusTold does
+  pub no-request-lost : NoRequestLost does
+  pub status-comes : StatusComes does
+  pub none-made-up : NoneMadeUp does

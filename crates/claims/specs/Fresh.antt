@@ -1,4 +1,4 @@
--- The unit that a cleared one is compared with: made by calls, with the four survivors set.
+-- The unit that a cleared one is compared with: made by calls, with the seven survivors set.
 -- Assumes nothing.
 use Prim.Native.Nat.{ℕ}
 use mathlib.Core.List.{List, [], _∷_}
@@ -24,7 +24,7 @@ GET-STATUS-OUT = 0x82 ∷ 0 ∷ 0 ∷ 0 ∷ 0x01 ∷ 0 ∷ 2 ∷ 0 ∷ []
 unfoldable pub halted : ℕ → Device
 halted p = after step (powerOn (record { packet = p }) .unit) (setup-of SET-CONFIGURATION-1 CONTROL ∷ setup-of SET-FEATURE-OUT CONTROL ∷ [])
 
--- a unit with these four, given as values, and all else its own
+-- a unit with these, given as values, and all else its own
 abbrev pub resumed : Survivors → Device → Device
 resumed s u = withState u (surviving s (u .state))
 

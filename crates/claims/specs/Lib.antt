@@ -5,6 +5,7 @@ pub mod Handed
 pub mod Acted
 pub mod Arrival
 pub mod Replies
+pub mod Service
 pub mod Fresh
 pub mod Claims
 pub mod Wrong

@@ -13,7 +13,7 @@ use Rattle.wire.specs.When.{at}
 use Rattle.port.specs.Parts.{inOf, outOf, packetSize, isConfigured}
 use Rattle.port.specs.Answer.{Answer}
 use Rattle.port.specs.Device.{Device, isSound, powerOn}
-use Rattle.port.specs.Step.{Quiet, in-poll, offer-reply, set-status, front-panel, bus-suspend, Call, setup-packet, out-packet, take-into, bus-reset, quiet, Stepping}
+use Rattle.port.specs.Step.{Quiet, in-poll, interrupt-poll, offer-reply, set-status, front-panel, bus-suspend, Call, setup-packet, out-packet, take-into, bus-reset, quiet, Stepping}
 use Rattle.port.specs.Trace.{Event, trace}
 use Rattle.port.specs.Laws.{Stored}
 use Rattle.port.specs.Reply.{Asked, portion, inTransfer, inPackets, InLine, shut, owing, asked, sending, Reader, unread, afterCall, Free, Closed, Reading}
@@ -31,6 +31,7 @@ dataOf (sending ps) bytes = bytes
 
 abbrev pub polledQuiet : Reader → Quiet → Answer → List ℕ
 polledQuiet r (in-poll room) a = pick (a .verdict .number =ᵇ 0) (dataOf (r .line) (a .bytes)) []
+polledQuiet r (interrupt-poll room) a = []
 polledQuiet r (offer-reply bytes) a = []
 polledQuiet r (set-status status) a = []
 polledQuiet r front-panel a = []
@@ -45,6 +46,7 @@ polledBy r (quiet q) a = polledQuiet r q a
 
 abbrev pub offeredQuiet : Quiet → Answer → List ℕ
 offeredQuiet (in-poll room) a = []
+offeredQuiet (interrupt-poll room) a = []
 offeredQuiet (offer-reply bytes) a = pick (a .verdict .number =ᵇ 0) bytes []
 offeredQuiet (set-status status) a = []
 offeredQuiet front-panel a = []
@@ -157,17 +159,19 @@ pub record Shape : Type 0 where
 
 -- ** A REPLY ARRIVES, as long as only these calls come
 
--- a setup packet, by bmRequestType and bRequest: no SET_CONFIGURATION, no CLEAR_FEATURE and SET_FEATURE, no abort and no clear is begun
-abbrev pub Harmless : ℕ → ℕ → Type 0
-Harmless type request =
-    Not (type ≡ 0x00) × Not (type ≡ 0x02) × Not ((type ≡ 0xA2) × (request ≡ 1)) × Not ((type ≡ 0xA2) × (request ≡ 3)) × Not ((type ≡ 0xA1) × (request ≡ 5))
+-- a setup packet, by bmRequestType, bRequest and wIndex: no SET_CONFIGURATION, no CLEAR_FEATURE and SET_FEATURE but on 0x83, no abort and no clear is begun
+abbrev pub Harmless : ℕ → ℕ → ℕ → Type 0
+Harmless type request index =
+    Not (type ≡ 0x00) × (type ≡ 0x02 → index ≡ 0x83)
+    × Not ((type ≡ 0xA2) × (request ≡ 1)) × Not ((type ≡ 0xA2) × (request ≡ 3)) × Not ((type ≡ 0xA1) × (request ≡ 5))
 
 abbrev pub MayCome : ℕ → Reader → Call → Answer → Type 0
-MayCome P r (setup-packet p) a = Not (a .verdict .number ≡ 0) ⊎ Harmless (at (p .packet) 0) (at (p .packet) 1)
+MayCome P r (setup-packet p) a = Not (a .verdict .number ≡ 0) ⊎ Harmless (at (p .packet) 0) (at (p .packet) 1) (at (p .packet) 4)
 MayCome P r (out-packet s) a = IsRequest s × Closed (r .line)
 MayCome P r (take-into room) a = Unit {0}
 MayCome P r bus-reset a = ⊥
 MayCome P r (quiet (in-poll room)) a = P ≤ room
+MayCome P r (quiet (interrupt-poll room)) a = Unit {0}
 MayCome P r (quiet (offer-reply bytes)) a = Unit {0}
 MayCome P r (quiet (set-status status)) a = Unit {0}
 MayCome P r (quiet front-panel) a = Unit {0}
@@ -192,6 +196,7 @@ ReplyDue r (out-packet s) n = n ≡ 0
 ReplyDue r (take-into room) n = Unit {0}
 ReplyDue r bus-reset n = Unit {0}
 ReplyDue r (quiet (in-poll room)) n = pollDue (r .unsent) (r .line) n
+ReplyDue r (quiet (interrupt-poll room)) n = Unit {0}
 ReplyDue r (quiet (offer-reply bytes)) n = 1 ≤ length bytes → length bytes ≤ 1024 → r .unsent ≡ [] → Free (r .line) → n ≡ 0
 ReplyDue r (quiet (set-status status)) n = Unit {0}
 ReplyDue r (quiet front-panel) n = Unit {0}

@@ -16,8 +16,9 @@ use Rattle.wire.specs.declared.types.Row.the-variants.{InitiateAbortBulkOut, Ch
 use Rattle.wire.specs.declared.types.Setup.{Setup}
 use Rattle.wire.specs.declared.types.Setup.the-variants.{Configure, Asks, NoRow}
 use Rattle.wire.proofs.Fronts.{front-pasted}
-use Rattle.port.specs.Parts.{isOpenOut, isOpenIn, isOwed, isClear, outOf, inOf, isConfigured}
-use Rattle.port.specs.Rows.{Reaction, answering, abortRules, outTag, inTag, initiateAbortOut, initiateAbortIn, checkAbortOut, checkAbortIn, initiateClear, checkClear, answerRow}
+use Rattle.port.specs.Parts.{isOpenOut, isOpenIn, isOwed, isClear, outOf, inOf, interruptOf, isConfigured}
+use Rattle.port.specs.Interrupt.{isWaiting}
+use Rattle.port.specs.Rows.{Reaction, answering, abortRules, outTag, inTag, initiateAbortOut, initiateAbortIn, checkAbortOut, checkAbortIn, initiateClear, checkClear, readStatus, answerRow}
 use Rattle.port.specs.Calls.{setupRules, asked, setupOutcome}
 use Rattle.port.specs.declared.types.Split.{Split}
 use Rattle.port.specs.declared.types.Split.the-variants.{None, AbortOut, AbortIn, Clear}
@@ -46,7 +47,7 @@ module _ (st : State) where
   check-in-short Clear = omega arith
 
   pub row-short : (row : Row) → Short (answerRow st row)
-  unfolding answerRow initiateAbortOut initiateAbortIn initiateClear checkClear
+  unfolding answerRow initiateAbortOut initiateAbortIn initiateClear checkClear readStatus
   row-short (InitiateAbortBulkOut tag) =
       decide-all Short (λ (status : ℕ). answering (status ∷ outTag (outOf st) ∷ [])) (abortRules (st .split) (isOpenOut (outOf st)) (outTag (outOf st)) tag) _ (omega arith, (omega arith, (omega arith, tt))) (λ _. omega arith)
   row-short CheckAbortBulkOutStatus = check-out-short (st .split)
@@ -57,7 +58,7 @@ module _ (st : State) where
   row-short CheckClearStatus = pick-all Short _ _ _ (λ _. omega arith) (λ _. pick-all Short (isOwed (inOf st)) _ _ (λ _. omega arith) (λ _. omega arith))
   row-short GetCapabilities = omega arith
   row-short IndicatorPulse = omega arith
-  row-short (ReadStatusByte tag) = omega arith
+  row-short (ReadStatusByte tag) = pick-all Short (isWaiting (interruptOf st)) _ _ (λ _. omega arith) (λ _. omega arith)
   row-short (RenControl ren) = omega arith
   row-short GoToLocal = omega arith
   row-short LocalLockout = omega arith

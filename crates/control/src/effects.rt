@@ -1,4 +1,5 @@
 // What an answered row does to the state, and to the side of an endpoint.
+use interrupts::part::status_queued;
 use port::types::BulkIn;
 use port::types::BulkOut;
 use port::types::CLOSED;
@@ -18,6 +19,8 @@ use state::parts::owed_in;
 use state::parts::shut;
 use state::parts::with_in;
 use state::parts::with_in_halted;
+use state::parts::with_interrupt;
+use state::parts::with_interrupt_halted;
 use state::parts::with_out;
 use state::parts::with_port;
 use state::parts::with_remote;
@@ -114,6 +117,10 @@ fn clears_halt(st: State, endpoint: Endpoint) -> State
             let b = st.small.bulkin;
             with_in(st, clear_feature_in(b))
         }
+        Endpoint::Interrupt => {
+            let i = st.small.interrupt;
+            with_interrupt(st, with_interrupt_halted(i, 0))
+        }
     }
 }
 
@@ -129,6 +136,10 @@ fn sets_halt(st: State, endpoint: Endpoint) -> State
             let b = st.small.bulkin;
             with_in(st, with_in_halted(b, 1))
         }
+        Endpoint::Interrupt => {
+            let i = st.small.interrupt;
+            with_interrupt(st, with_interrupt_halted(i, 1))
+        }
     }
 }
 
@@ -136,6 +147,7 @@ pub fn effected(st: State, effect: Effect) -> State
     ensures { λ r. ⌜ r ≡ effected st effect ⌝ }
 {
     let remote = st.remote;
+    let i = st.small.interrupt;
     match effect {
         Effect::Stays => st,
         Effect::AbortsOut => aborted_out(st),
@@ -147,5 +159,6 @@ pub fn effected(st: State, effect: Effect) -> State
         Effect::LocksOut => with_remote(st, locked_out(st.small.port.ren, remote)),
         Effect::ClearsHalt { endpoint } => clears_halt(st, endpoint),
         Effect::SetsHalt { endpoint } => sets_halt(st, endpoint),
+        Effect::Queues { tag } => with_interrupt(st, status_queued(i, tag)),
     }
 }

@@ -1,11 +1,14 @@
 // What each row answers, in the order of the table.
 use port::types::Effect;
+use port::types::InterruptIn;
 use port::types::State;
 use rules::DONE;
+use rules::INTERRUPT_IN_BUSY;
 use rules::SUCCESS;
 use rules::TELLS_NOTHING;
 use rules::TELLS_PULSE;
 use rules::verdict::Verdict;
+use soundness::sound::is_waiting;
 use splits::aborts::check_abort_in;
 use splits::aborts::check_abort_out;
 use splits::aborts::initiate_abort_in;
@@ -16,13 +19,12 @@ use splits::says::says_0;
 use splits::says::says_1;
 use splits::says::says_2;
 use splits::says::says_3;
-use splits::says::shown;
 use splits::types::Control;
 use wire::types::Endpoint;
 use wire::types::Row;
 ghost use mathlib.Core.Path.{_≡_};
 ghost use Prim.Native.Nat.{ℕ};
-ghost use Rattle.port.specs.Rows.{answering, capabilities, halt, answerRow};
+ghost use Rattle.port.specs.Rows.{answering, capabilities, readStatus, halt, answerRow};
 ghost use Rattle.splits.specs.Control.{controlOf};
 
 fn get_capabilities() -> Control
@@ -35,7 +37,7 @@ fn get_capabilities() -> Control
     bytes[5] = 1;
     bytes[13] = 1;
     bytes[14] = 3;
-    bytes[15] = 3;
+    bytes[15] = 7;
     Control {
         effect: Effect::Stays,
         verdict: Verdict {
@@ -69,7 +71,18 @@ fn halt(st: State, endpoint: Endpoint) -> u8
     match endpoint {
         Endpoint::Out => st.small.bulkout.halted,
         Endpoint::In => st.small.bulkin.halted,
+        Endpoint::Interrupt => st.small.interrupt.halted,
     }
+}
+
+// READ_STATUS_BYTE: busy while a packet waits, else the packet that it queues tells the status byte.
+fn read_status(i: InterruptIn, tag: u8) -> Control
+    ensures { λ r. ⌜ r ≡ controlOf (readStatus i tag) ⌝ }
+{
+    if is_waiting(i) {
+        return says_3(Effect::Stays, INTERRUPT_IN_BUSY, tag, 0);
+    }
+    says_3(Effect::Queues { tag }, SUCCESS, tag, 0)
 }
 
 pub fn answer_row(st: State, row: Row) -> Control
@@ -77,6 +90,7 @@ pub fn answer_row(st: State, row: Row) -> Control
 {
     let split = st.split;
     let b = st.small.bulkin;
+    let i = st.small.interrupt;
     match row {
         Row::InitiateAbortBulkOut { tag } => initiate_abort_out(st, tag),
         Row::CheckAbortBulkOutStatus => check_abort_out(split),
@@ -86,12 +100,7 @@ pub fn answer_row(st: State, row: Row) -> Control
         Row::CheckClearStatus => check_clear(b, split),
         Row::GetCapabilities => get_capabilities(),
         Row::IndicatorPulse => indicator_pulse(st),
-        Row::ReadStatusByte { tag } => says_3(
-            Effect::Stays,
-            SUCCESS,
-            tag,
-            shown(st.small.port.status),
-        ),
+        Row::ReadStatusByte { tag } => read_status(i, tag),
         Row::RenControl { on } => says_1(Effect::SetsRen { on }, SUCCESS),
         Row::GoToLocal => says_1(Effect::GoesToLocal, SUCCESS),
         Row::LocalLockout => says_1(Effect::LocksOut, SUCCESS),

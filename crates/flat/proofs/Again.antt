@@ -25,7 +25,7 @@ use Rattle.port.specs.declared.types.Remote.{Remote}
 use Rattle.port.specs.declared.types.Remote.the-variants.{Locs, Rems, Lwls, Rwls}
 use Rattle.port.specs.declared.types.State.{State}
 use Rattle.flat.proofs.Parted.{message-shut, reply-shut, part-shut, byte-shut, part-small, part-long, from, spelt, parted}
-use Rattle.flat.specs.Flat.{PORT, OUT-MESSAGE, OUT-TRANSFER, IN-REPLY, IN-TRANSFER, SPLIT, REPLY-AT, PORT-AT, REMOTE-AT, OUT-MESSAGE-AT, OUT-HALTED-AT, OUT-TRANSFER-AT, OUT-RECENT-AT, IN-REPLY-AT, IN-TRANSFER-AT, IN-HALTED-AT, IN-RECENT-AT, SPLIT-AT, UNIT, splitOf, kindOf, countOf, remoteOf, placeOf, portIn, outMessageIn, outTransferIn, inReplyIn, inTransferIn, splitIn, portBytes, outMessageBytes, outTransferBytes, inReplyBytes, inTransferBytes, splitBytes, part, stateIn, opened, bytesOf, shut, isAbort, isSplit, isUnit, Bytes}
+use Rattle.flat.specs.Flat.{PORT, OUT-MESSAGE, OUT-TRANSFER, IN-REPLY, IN-TRANSFER, INTERRUPT, SPLIT, REPLY-AT, PORT-AT, OUT-MESSAGE-AT, OUT-HALTED-AT, OUT-TRANSFER-AT, OUT-RECENT-AT, IN-REPLY-AT, IN-TRANSFER-AT, IN-HALTED-AT, IN-RECENT-AT, INTERRUPT-AT, SPLIT-AT, REMOTE-AT, UNIT, splitOf, kindOf, countOf, remoteOf, placeOf, portIn, outMessageIn, outTransferIn, inReplyIn, inTransferIn, interruptIn, splitIn, portBytes, outMessageBytes, outTransferBytes, inReplyBytes, inTransferBytes, interruptBytes, splitBytes, part, stateIn, opened, bytesOf, shut, isAbort, isSplit, isUnit, Bytes}
 use Rattle.flat.specs.Sides.{STATE}
 
 -- ** there and back
@@ -100,6 +100,7 @@ state-there d fit =
       at OUT-TRANSFER-AT OUT-TRANSFER (omega arith),
       at IN-REPLY-AT IN-REPLY (omega arith),
       at IN-TRANSFER-AT IN-TRANSFER (omega arith),
+      at INTERRUPT-AT INTERRUPT (omega arith),
       at SPLIT-AT SPLIT (omega arith),
       one REMOTE-AT (omega arith),
       one OUT-HALTED-AT (omega arith),
@@ -152,7 +153,10 @@ in-reply-back f e h = (λ i. two f h 0 i ++ two f h 2 i) ∙ whole IN-REPLY f e
 pub in-transfer-back : Back IN-TRANSFER (λ f. inTransferBytes (inTransferIn f))
 in-transfer-back f e h = (λ i. two f h 0 i ++ two f h 2 i ++ two f h 4 i ++ from f 6 (IN-TRANSFER - 6)) ∙ whole IN-TRANSFER f e
 
-split-again-bytes : (count k : ℕ) → k ≤ 3 → (isAbort k or count =ᵇ 0) ≡ true → splitBytes (splitOf count k) ≡ bytes2 count ++ k ∷ 0 ∷ []
+pub interrupt-back : Back INTERRUPT (λ f. interruptBytes (interruptIn f))
+interrupt-back f e h = whole INTERRUPT f e
+
+split-again-bytes : (count k : ℕ) → k ≤ 3 → (isAbort k or count =ᵇ 0) ≡ true → splitBytes (splitOf count k) ≡ bytes2 count ++ k ∷ []
 unfolding splitOf kindOf countOf _or_
 split-again-bytes count zero h e = rw (eqb-true count 0 e)
 split-again-bytes count (suc zero) h e = refl
@@ -162,9 +166,9 @@ split-again-bytes count (suc (suc (suc (suc k)))) h e = absurd (omega arith)
 
 pub split-back : (f : List ℕ) → length f ≡ SPLIT → Bytes f → isSplit f ≡ true → splitBytes (splitIn f) ≡ f
 split-back f e h is =
-    let t = all-of (byte f 2 ≤ᵇ 3 & byte f 3 =ᵇ 0 & (isAbort (byte f 2) or number2 f 0 =ᵇ 0) & []) is in
-    split-again-bytes (number2 f 0) (byte f 2) (leb-true (byte f 2) 3 (t .0)) (t .1 .1 .0)
-    ∙ (λ i. two f h 0 i ++ byte f 2 ∷ sym (eqb-true (byte f 3) 0 (t .1 .0)) i ∷ [])
+    let t = all-of (byte f 2 ≤ᵇ 3 & (isAbort (byte f 2) or number2 f 0 =ᵇ 0) & []) is in
+    split-again-bytes (number2 f 0) (byte f 2) (leb-true (byte f 2) 3 (t .0)) (t .1 .0)
+    ∙ (λ i. two f h 0 i ++ from f 2 (SPLIT - 2))
     ∙ whole SPLIT f e
 
 pub remote-back : (p : ℕ) → p ≤ 3 → placeOf (remoteOf p) ≡ p
@@ -182,7 +186,6 @@ shut-opened u long small is =
     ap (λ (f : List ℕ). part 0 STORE u ++ part REPLY-AT STORE u ++ f)
     ((λ i.
     at PORT-AT PORT (omega arith) _ port-back i ++
-    remote-back (byte u REMOTE-AT) (leb-true (byte u REMOTE-AT) 3 (t .0)) i ∷
     at OUT-MESSAGE-AT OUT-MESSAGE (omega arith) _ out-message-back i ++
     byte u OUT-HALTED-AT ∷
     at OUT-TRANSFER-AT OUT-TRANSFER (omega arith) _ out-transfer-back i ++
@@ -190,7 +193,9 @@ shut-opened u long small is =
     at IN-REPLY-AT IN-REPLY (omega arith) _ in-reply-back i ++
     at IN-TRANSFER-AT IN-TRANSFER (omega arith) _ in-transfer-back i ++
     byte u IN-HALTED-AT ∷ byte u IN-RECENT-AT ∷
-    (split-back (part SPLIT-AT SPLIT u) (part-long SPLIT-AT SPLIT u (omega arith)) (part-small SPLIT-AT SPLIT u small) (t .1 .0) ∙ spelt SPLIT-AT SPLIT u (omega arith)) i)
+    at INTERRUPT-AT INTERRUPT (omega arith) _ interrupt-back i ++
+    (split-back (part SPLIT-AT SPLIT u) (part-long SPLIT-AT SPLIT u (omega arith)) (part-small SPLIT-AT SPLIT u small) (t .1 .0) ∙ spelt SPLIT-AT SPLIT u (omega arith)) i ++
+    remote-back (byte u REMOTE-AT) (leb-true (byte u REMOTE-AT) 3 (t .0)) i ∷ [])
     ∙ sym (spelt PORT-AT STATE u (omega arith)))
     ∙ parted u long
   where

@@ -7,13 +7,14 @@ use mathlib.Core.List.{List, [], _∷_, _++_}
 use lib.ListN.{take, drop}
 use Rattle.rules.specs.Choice.{_=ᵇ_, _≤ᵇ_, _or_, _&_, all}
 use Rattle.wire.specs.Bytes.{byte, number2, bytes2}
-use Rattle.port.specs.Parts.{STORE, portOf, outOf, inOf}
+use Rattle.port.specs.Parts.{STORE, portOf, outOf, inOf, interruptOf}
 use Rattle.port.specs.Device.{Device}
 use Rattle.port.specs.declared.types.Port.{Port}
 use Rattle.port.specs.declared.types.OutMessage.{OutMessage}
 use Rattle.port.specs.declared.types.OutTransfer.{OutTransfer}
 use Rattle.port.specs.declared.types.InReply.{InReply}
 use Rattle.port.specs.declared.types.InTransfer.{InTransfer}
+use Rattle.port.specs.declared.types.InterruptIn.{InterruptIn}
 use Rattle.port.specs.declared.types.Split.{Split}
 use Rattle.port.specs.declared.types.Split.the-variants.{None, AbortOut, AbortIn, Clear}
 use Rattle.port.specs.declared.types.Remote.{Remote}
@@ -23,7 +24,7 @@ use Rattle.port.specs.declared.types.State.{State}
 -- ** how many bytes a part has; a flag, a tag and the remote/local state have one
 
 abbrev pub PORT : ℕ
-PORT = 5
+PORT = 4
 
 abbrev pub OUT-MESSAGE : ℕ
 OUT-MESSAGE = 3
@@ -37,8 +38,11 @@ IN-REPLY = 4
 abbrev pub IN-TRANSFER : ℕ
 IN-TRANSFER = 10
 
+abbrev pub INTERRUPT : ℕ
+INTERRUPT = 4
+
 abbrev pub SPLIT : ℕ
-SPLIT = 4
+SPLIT = 3
 
 -- ** where it stands: each behind the one before it
 
@@ -48,11 +52,8 @@ REPLY-AT = STORE
 abbrev pub PORT-AT : ℕ
 PORT-AT = REPLY-AT + STORE
 
-abbrev pub REMOTE-AT : ℕ
-REMOTE-AT = PORT-AT + PORT
-
 abbrev pub OUT-MESSAGE-AT : ℕ
-OUT-MESSAGE-AT = REMOTE-AT + 1
+OUT-MESSAGE-AT = PORT-AT + PORT
 
 abbrev pub OUT-HALTED-AT : ℕ
 OUT-HALTED-AT = OUT-MESSAGE-AT + OUT-MESSAGE
@@ -75,12 +76,22 @@ IN-HALTED-AT = IN-TRANSFER-AT + IN-TRANSFER
 abbrev pub IN-RECENT-AT : ℕ
 IN-RECENT-AT = IN-HALTED-AT + 1
 
+abbrev pub INTERRUPT-AT : ℕ
+INTERRUPT-AT = IN-RECENT-AT + 1
+
 abbrev pub SPLIT-AT : ℕ
-SPLIT-AT = IN-RECENT-AT + 1
+SPLIT-AT = INTERRUPT-AT + INTERRUPT
+
+abbrev pub REMOTE-AT : ℕ
+REMOTE-AT = SPLIT-AT + SPLIT
 
 -- the bytes of a unit
 abbrev pub UNIT : ℕ
-UNIT = SPLIT-AT + SPLIT
+UNIT = REMOTE-AT + 1
+
+-- the last byte of Interrupt-IN's part
+abbrev pub INTERRUPT-HALTED-AT : ℕ
+INTERRUPT-HALTED-AT = INTERRUPT-AT + 3
 
 -- ** the two enums as numbers
 
@@ -117,7 +128,7 @@ placeOf Rwls = 3
 -- ** a part from its bytes
 
 abbrev pub portIn : List ℕ → Port
-portIn f = record { setting = record { packet = number2 f 0 }; configured = byte f 2; ren = byte f 3; status = byte f 4 }
+portIn f = record { setting = record { packet = number2 f 0 }; configured = byte f 2; ren = byte f 3 }
 
 abbrev pub outMessageIn : List ℕ → OutMessage
 outMessageIn f = record { held = number2 f 0; ready = byte f 2 }
@@ -139,14 +150,16 @@ inTransferIn f = record {
   term = byte f 9;
 }
 
--- behind the count and the kind stands a byte that is 0
+abbrev pub interruptIn : List ℕ → InterruptIn
+interruptIn f = record { status = byte f 0; waiting = record { notify1 = byte f 1; notify2 = byte f 2 }; halted = byte f 3 }
+
 abbrev pub splitIn : List ℕ → Split
 splitIn f = splitOf (number2 f 0) (byte f 2)
 
 -- ** the bytes of a part
 
 abbrev pub portBytes : Port → List ℕ
-portBytes p = bytes2 (p .setting .packet) ++ p .configured ∷ p .ren ∷ p .status ∷ []
+portBytes p = bytes2 (p .setting .packet) ++ p .configured ∷ p .ren ∷ []
 
 abbrev pub outMessageBytes : OutMessage → List ℕ
 outMessageBytes m = bytes2 (m .held) ++ m .ready ∷ []
@@ -161,8 +174,11 @@ abbrev pub inTransferBytes : InTransfer → List ℕ
 inTransferBytes t =
     bytes2 (t .asked) ++ bytes2 (t .left) ++ bytes2 (t .sent) ++ t .phase ∷ t .tag ∷ t .enabled ∷ t .term ∷ []
 
+abbrev pub interruptBytes : InterruptIn → List ℕ
+interruptBytes i = i .status ∷ i .waiting .notify1 ∷ i .waiting .notify2 ∷ i .halted ∷ []
+
 abbrev pub splitBytes : Split → List ℕ
-splitBytes s = bytes2 (countOf s) ++ kindOf s ∷ 0 ∷ []
+splitBytes s = bytes2 (countOf s) ++ kindOf s ∷ []
 
 -- ** a unit from its bytes, and its bytes
 
@@ -186,6 +202,7 @@ stateIn u = record {
       halted = byte u IN-HALTED-AT;
       recent = byte u IN-RECENT-AT;
     };
+    interrupt = interruptIn (part INTERRUPT-AT INTERRUPT u);
   };
   split = splitIn (part SPLIT-AT SPLIT u);
   remote = remoteOf (byte u REMOTE-AT);
@@ -198,19 +215,20 @@ unfoldable pub bytesOf : State → List ℕ
 bytesOf st =
     let o = outOf st in
     let b = inOf st in
-    portBytes (portOf st) ++ placeOf (st .remote) ∷
+    portBytes (portOf st) ++
     outMessageBytes (o .message) ++ o .halted ∷ outTransferBytes (o .transfer) ++ o .recent ∷
-    inReplyBytes (b .reply) ++ inTransferBytes (b .transfer) ++ b .halted ∷ b .recent ∷ splitBytes (st .split)
+    inReplyBytes (b .reply) ++ inTransferBytes (b .transfer) ++ b .halted ∷ b .recent ∷
+    interruptBytes (interruptOf st) ++ splitBytes (st .split) ++ placeOf (st .remote) ∷ []
 
 unfoldable pub shut : Device → List ℕ
 shut d = d .message ++ d .reply ++ bytesOf (d .state)
 
--- the values that no unit writes: a fifth split or place, a count with no abort, the byte behind them
+-- the values that no unit writes: a fifth split or place, a count with no abort
 abbrev pub isAbort : ℕ → Bool
 isAbort kind = kind =ᵇ 1 or kind =ᵇ 2
 
 abbrev pub isSplit : List ℕ → Bool
-isSplit f = all (byte f 2 ≤ᵇ 3 & byte f 3 =ᵇ 0 & (isAbort (byte f 2) or number2 f 0 =ᵇ 0) & [])
+isSplit f = all (byte f 2 ≤ᵇ 3 & (isAbort (byte f 2) or number2 f 0 =ᵇ 0) & [])
 
 unfoldable pub isUnit : List ℕ → Bool
 isUnit u = all (byte u REMOTE-AT ≤ᵇ 3 & isSplit (part SPLIT-AT SPLIT u) & [])

@@ -4,7 +4,7 @@ use Prim.Native.Nat.{ℕ, _+_}
 use mathlib.Core.List.{List, [], _∷_, _++_}
 use Rattle.port.specs.declared.types.BulkOut.{BulkOut}
 use Rattle.port.specs.declared.types.BulkIn.{BulkIn}
-use Rattle.flat.specs.Flat.{PORT, OUT-MESSAGE, OUT-TRANSFER, IN-REPLY, IN-TRANSFER, SPLIT, outMessageBytes, outTransferBytes, inReplyBytes, inTransferBytes}
+use Rattle.flat.specs.Flat.{PORT, OUT-MESSAGE, OUT-TRANSFER, IN-REPLY, IN-TRANSFER, INTERRUPT, SPLIT, outMessageBytes, outTransferBytes, inReplyBytes, inTransferBytes}
 
 -- how many bytes they have
 abbrev pub OUT : ℕ
@@ -14,7 +14,7 @@ abbrev pub IN : ℕ
 IN = IN-REPLY + IN-TRANSFER + 1 + 1
 
 abbrev pub STATE : ℕ
-STATE = PORT + 1 + OUT + IN + SPLIT
+STATE = PORT + OUT + IN + INTERRUPT + SPLIT + 1
 
 -- from OUT-MESSAGE-AT on, and from IN-REPLY-AT on; those of the state are `bytesOf`, from PORT-AT on
 abbrev pub outBytes : BulkOut → List ℕ

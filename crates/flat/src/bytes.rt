@@ -1,6 +1,8 @@
 // The bytes of a part of a unit: how many there are, the part from them, and they from the part.
 use port::types::InReply;
 use port::types::InTransfer;
+use port::types::InterruptIn;
+use port::types::Notify;
 use port::types::OutMessage;
 use port::types::OutTransfer;
 use port::types::Port;
@@ -14,9 +16,9 @@ ghost use mathlib.Core.Path.{_≡_};
 ghost use Prim.Native.Nat.{ℕ, _+_, _/_, _%_, _≤_};
 ghost use lib.ListN.{length};
 ghost use Rattle.wire.specs.Bytes.{number2};
-ghost use Rattle.flat.specs.Flat.{PORT, OUT-MESSAGE, OUT-TRANSFER, IN-REPLY, IN-TRANSFER, SPLIT, placeOf, portBytes, outMessageBytes, outTransferBytes, inReplyBytes, inTransferBytes, splitBytes, portIn, outMessageIn, outTransferIn, inReplyIn, inTransferIn, splitIn, isSplit};
+ghost use Rattle.flat.specs.Flat.{PORT, OUT-MESSAGE, OUT-TRANSFER, IN-REPLY, IN-TRANSFER, INTERRUPT, SPLIT, placeOf, portBytes, outMessageBytes, outTransferBytes, inReplyBytes, inTransferBytes, interruptBytes, splitBytes, portIn, outMessageIn, outTransferIn, inReplyIn, inTransferIn, interruptIn, splitIn, isSplit};
 
-pub const PORT: usize = 5;
+pub const PORT: usize = 4;
 
 pub const OUT_MESSAGE: usize = 3;
 
@@ -26,7 +28,9 @@ pub const IN_REPLY: usize = 4;
 
 pub const IN_TRANSFER: usize = 10;
 
-pub const SPLIT: usize = 4;
+pub const INTERRUPT: usize = 4;
+
+pub const SPLIT: usize = 3;
 
 // ** from bytes
 
@@ -48,7 +52,6 @@ pub fn port_in(f: &[u8]) -> Port
         },
         configured: f[2],
         ren: f[3],
-        status: f[4],
     }
 }
 
@@ -98,6 +101,20 @@ pub fn in_transfer_in(f: &[u8]) -> InTransfer
     }
 }
 
+pub fn interrupt_in(f: &[u8]) -> InterruptIn
+    requires { ⌜ INTERRUPT ≤ length (now f) ⌝ }
+    ensures { λ r. ⌜ r ≡ interruptIn (now (f .entry)) ⌝ }
+{
+    InterruptIn {
+        status: f[0],
+        waiting: Notify {
+            notify1: f[1],
+            notify2: f[2],
+        },
+        halted: f[3],
+    }
+}
+
 pub fn split_in(f: &[u8]) -> Split
     requires { ⌜ SPLIT ≤ length (now f) ⌝ }
     ensures { λ r. ⌜ r ≡ splitIn (now (f .entry)) ⌝ }
@@ -118,9 +135,6 @@ pub fn is_split(f: &[u8]) -> bool
     ensures { λ r. ⌜ r ≡ isSplit (now (f .entry)) ⌝ }
 {
     if 3 < f[2] {
-        return false;
-    }
-    if f[3] != 0 {
         return false;
     }
     if f[2] == 1 {
@@ -158,7 +172,6 @@ pub fn port_bytes(p: Port) -> [u8; PORT]
         high16(p.setting.packet),
         p.configured,
         p.ren,
-        p.status,
     ]
 }
 
@@ -214,13 +227,19 @@ pub fn in_transfer_bytes(t: InTransfer) -> [u8; IN_TRANSFER]
     ]
 }
 
+pub fn interrupt_bytes(i: InterruptIn) -> [u8; INTERRUPT]
+    ensures { λ r. ⌜ r ≡ interruptBytes i ⌝ }
+{
+    [i.status, i.waiting.notify1, i.waiting.notify2, i.halted]
+}
+
 pub fn split_bytes(s: Split) -> [u8; SPLIT]
     ensures { λ r. ⌜ r ≡ splitBytes s ⌝ }
 {
     match s {
-        Split::None => [0, 0, 0, 0],
-        Split::AbortOut { count } => [low16(count), high16(count), 1, 0],
-        Split::AbortIn { count } => [low16(count), high16(count), 2, 0],
-        Split::Clear => [0, 0, 3, 0],
+        Split::None => [0, 0, 0],
+        Split::AbortOut { count } => [low16(count), high16(count), 1],
+        Split::AbortIn { count } => [low16(count), high16(count), 2],
+        Split::Clear => [0, 0, 3],
     }
 }

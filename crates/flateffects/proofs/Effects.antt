@@ -6,20 +6,21 @@ use mathlib.Core.List.{List, [], _∷_}
 use lib.Seq.{paste}
 use borrow.Author.Tests.{eq-eqb, ne-eqb}
 use Rattle.rules.proofs.Choice.{at-true, at-false}
-use Rattle.port.specs.Parts.{portOf, outOf, inOf, withRen, emptyOut, broken}
+use Rattle.port.specs.Parts.{portOf, outOf, inOf, interruptOf, withRen, emptyOut, broken}
+use Rattle.port.specs.Interrupt.{statusQueued}
 use Rattle.port.specs.Remote.{localNow}
 use Rattle.port.specs.Rows.{owing, clearedIn, clearing, clearFeatureOut, clearFeatureIn, effected}
 use Rattle.port.specs.Device.{withState}
 use Rattle.port.specs.declared.types.Effect.{Effect}
-use Rattle.port.specs.declared.types.Effect.the-variants.{Stays, AbortsOut, AbortsIn, Clears, EndsSplit, SetsRen, ClearsHalt, SetsHalt}
+use Rattle.port.specs.declared.types.Effect.the-variants.{Stays, AbortsOut, AbortsIn, Clears, EndsSplit, SetsRen, ClearsHalt, SetsHalt, Queues}
 use Rattle.port.specs.declared.types.Split.the-variants.{None, AbortOut, AbortIn, Clear}
 use Rattle.port.specs.declared.types.Remote.{Remote}
 use Rattle.port.specs.declared.types.Remote.the-variants.{Locs}
 use Rattle.port.specs.declared.types.State.{State}
-use Rattle.wire.specs.declared.types.Endpoint.the-variants.{Out, In}
-use Rattle.flat.specs.Flat.{PORT, SPLIT, PORT-AT, REMOTE-AT, OUT-MESSAGE-AT, IN-REPLY-AT, IN-HALTED-AT, SPLIT-AT, portBytes, placeOf, splitBytes, stateIn, opened}
+use Rattle.wire.specs.declared.types.Endpoint.the-variants.{Out, In, Interrupt}
+use Rattle.flat.specs.Flat.{PORT, INTERRUPT, SPLIT, PORT-AT, OUT-MESSAGE-AT, IN-REPLY-AT, IN-HALTED-AT, INTERRUPT-AT, INTERRUPT-HALTED-AT, SPLIT-AT, REMOTE-AT, portBytes, interruptBytes, placeOf, splitBytes, stateIn, opened}
 use Rattle.flat.specs.Sides.{OUT, IN, outBytes, inBytes}
-use Rattle.flatparts.proofs.Puts.{Holds, port-put, remote-put, out-put, in-put, in-halted-put, split-put}
+use Rattle.flatparts.proofs.Puts.{Holds, port-put, out-put, in-put, in-halted-put, interrupt-put, interrupt-halted-put, split-put, remote-put}
 use Rattle.flateffects.specs.Does.{Does}
 
 module _ (u u′ : List ℕ) where
@@ -75,3 +76,15 @@ module _ (u u′ : List ℕ) where
   pub sets-in : u′ ≡ paste u IN-HALTED-AT (1 ∷ []) 1 → Does u (SetsHalt In) u′
   unfolding opened effected
   sets-in f = does (SetsHalt In) (λ h. in-halted-put 1 .to h f)
+
+  pub clears-interrupt : u′ ≡ paste u INTERRUPT-HALTED-AT (0 ∷ []) 1 → Does u (ClearsHalt Interrupt) u′
+  unfolding opened effected
+  clears-interrupt f = does (ClearsHalt Interrupt) (λ h. interrupt-halted-put 0 .to h f)
+
+  pub sets-interrupt : u′ ≡ paste u INTERRUPT-HALTED-AT (1 ∷ []) 1 → Does u (SetsHalt Interrupt) u′
+  unfolding opened effected
+  sets-interrupt f = does (SetsHalt Interrupt) (λ h. interrupt-halted-put 1 .to h f)
+
+  pub queues : (tag : ℕ) → u′ ≡ paste u INTERRUPT-AT (interruptBytes (statusQueued (interruptOf (stateIn u)) tag)) INTERRUPT → Does u (Queues tag) u′
+  unfolding opened effected
+  queues tag f = does (Queues tag) (λ h. interrupt-put _ .to h f)

@@ -5,15 +5,19 @@ use control::effects::cleared_in;
 use control::effects::owing;
 use flatparts::put::put_in;
 use flatparts::put::put_in_halted;
+use flatparts::put::put_interrupt;
+use flatparts::put::put_interrupt_halted;
 use flatparts::put::put_out;
 use flatparts::put::put_port;
 use flatparts::put::put_remote;
 use flatparts::put::put_split;
 use flatparts::read::in_of;
+use flatparts::read::interrupt_of;
 use flatparts::read::out_of;
 use flatparts::read::port_of;
 use flatparts::read::remote_of;
 use flatparts::read::split_of;
+use interrupts::part::status_queued;
 use port::types::Effect;
 use port::types::Remote;
 use port::types::Split;
@@ -102,6 +106,7 @@ fn clears_halt(u: &mut [u8], endpoint: Endpoint)
             let b = in_of(u);
             put_in(u, clear_feature_in(b));
         }
+        Endpoint::Interrupt => put_interrupt_halted(u, 0),
     }
 }
 
@@ -115,7 +120,16 @@ fn sets_halt(u: &mut [u8], endpoint: Endpoint)
             put_out(u, broken(1, o));
         }
         Endpoint::In => put_in_halted(u, 1),
+        Endpoint::Interrupt => put_interrupt_halted(u, 1),
     }
+}
+
+fn queues(u: &mut [u8], tag: u8)
+    requires { ⌜ UNIT ≤ length (now u) ⌝ }
+    ensures { λ _. ⌜ Does (now (u .entry)) (Effect.Queues tag) (now (u .exit)) ⌝ }
+{
+    let i = interrupt_of(u);
+    put_interrupt(u, status_queued(i, tag));
 }
 
 pub fn carry(u: &mut [u8], effect: Effect)
@@ -133,5 +147,6 @@ pub fn carry(u: &mut [u8], effect: Effect)
         Effect::LocksOut => locks_out(u),
         Effect::ClearsHalt { endpoint } => clears_halt(u, endpoint),
         Effect::SetsHalt { endpoint } => sets_halt(u, endpoint),
+        Effect::Queues { tag } => queues(u, tag),
     }
 }

@@ -8,7 +8,7 @@ use mathlib.Core.List.{List, [], _∷_, _++_}
 use native.Mathlib.Omega.{arith}
 use lib.ListN.{length, replicate, length-replicate, replicate-append-replicate}
 use lib.Seq.{paste, length-paste}
-use Rattle.port.specs.Parts.{STORE, outOf, inOf, withPort, withOut, withIn, withSplit, withRemote, holding, carrying, withInHalted}
+use Rattle.port.specs.Parts.{STORE, outOf, inOf, interruptOf, withPort, withOut, withIn, withInterrupt, withSplit, withRemote, holding, carrying, withInHalted, withInterruptHalted}
 use Rattle.port.specs.Out.{tagged}
 use Rattle.port.specs.Device.{Device, withState, zeroed}
 use Rattle.port.specs.Laws.{Stored}
@@ -19,13 +19,14 @@ use Rattle.port.specs.declared.types.BulkOut.{BulkOut}
 use Rattle.port.specs.declared.types.InReply.{InReply}
 use Rattle.port.specs.declared.types.InTransfer.{InTransfer}
 use Rattle.port.specs.declared.types.BulkIn.{BulkIn}
+use Rattle.port.specs.declared.types.InterruptIn.{InterruptIn}
 use Rattle.port.specs.declared.types.Split.{Split}
 use Rattle.port.specs.declared.types.Remote.{Remote}
 use Rattle.port.specs.declared.types.State.{State}
 use Rattle.flatparts.proofs.Pastes.{paste-left, paste-right, paste-all}
 use Rattle.flat.proofs.Again.{shut-opened}
 use Rattle.flat.proofs.Parted.{stores-long, opened-stored}
-use Rattle.flat.specs.Flat.{PORT, OUT-MESSAGE, OUT-TRANSFER, IN-REPLY, IN-TRANSFER, SPLIT, REPLY-AT, PORT-AT, REMOTE-AT, OUT-MESSAGE-AT, OUT-TRANSFER-AT, OUT-RECENT-AT, IN-REPLY-AT, IN-TRANSFER-AT, IN-HALTED-AT, IN-RECENT-AT, SPLIT-AT, UNIT, placeOf, portBytes, outMessageBytes, outTransferBytes, inReplyBytes, inTransferBytes, splitBytes, bytesOf, opened, shut, isUnit, Bytes}
+use Rattle.flat.specs.Flat.{PORT, OUT-MESSAGE, OUT-TRANSFER, IN-REPLY, IN-TRANSFER, INTERRUPT, SPLIT, REPLY-AT, PORT-AT, OUT-MESSAGE-AT, OUT-TRANSFER-AT, OUT-RECENT-AT, IN-REPLY-AT, IN-TRANSFER-AT, IN-HALTED-AT, IN-RECENT-AT, INTERRUPT-AT, INTERRUPT-HALTED-AT, SPLIT-AT, REMOTE-AT, UNIT, placeOf, portBytes, outMessageBytes, outTransferBytes, inReplyBytes, inTransferBytes, interruptBytes, splitBytes, bytesOf, opened, shut, isUnit, Bytes}
 use Rattle.flat.specs.Sides.{OUT, IN, outBytes, inBytes}
 
 -- one part set, the others kept, where port/specs/Parts.antt has no name for it
@@ -74,10 +75,6 @@ pub port-put : {d : Device} (p : Port) → Put d PORT-AT (portBytes p) PORT (wit
 unfolding bytesOf
 port-put p = behind (omega arith) refl
 
-pub remote-put : {d : Device} (r : Remote) → Put d REMOTE-AT (placeOf r ∷ []) 1 (withState d (withRemote (d .state) r))
-unfolding bytesOf
-remote-put r = behind (omega arith) refl
-
 pub out-message-put : {d : Device} (m : OutMessage) → Put d OUT-MESSAGE-AT (outMessageBytes m) OUT-MESSAGE (withState d (withOut (d .state) (holding (out d) m (out d .transfer))))
 unfolding bytesOf
 out-message-put m = behind (omega arith) refl
@@ -106,9 +103,21 @@ pub in-recent-put : {d : Device} (tag : ℕ) → Put d IN-RECENT-AT (tag ∷ [])
 unfolding bytesOf
 in-recent-put tag = behind (omega arith) refl
 
+pub interrupt-put : {d : Device} (i : InterruptIn) → Put d INTERRUPT-AT (interruptBytes i) INTERRUPT (withState d (withInterrupt (d .state) i))
+unfolding bytesOf
+interrupt-put i = behind (omega arith) refl
+
+pub interrupt-halted-put : {d : Device} (halted : ℕ) → Put d INTERRUPT-HALTED-AT (halted ∷ []) 1 (withState d (withInterrupt (d .state) (withInterruptHalted (interruptOf (d .state)) halted)))
+unfolding bytesOf
+interrupt-halted-put halted = behind (omega arith) refl
+
 pub split-put : {d : Device} (s : Split) → Put d SPLIT-AT (splitBytes s) SPLIT (withState d (withSplit (d .state) s))
 unfolding bytesOf
 split-put s = behind (omega arith) refl
+
+pub remote-put : {d : Device} (r : Remote) → Put d REMOTE-AT (placeOf r ∷ []) 1 (withState d (withRemote (d .state) r))
+unfolding bytesOf
+remote-put r = behind (omega arith) refl
 
 pub out-put : {d : Device} (o : BulkOut) → Put d OUT-MESSAGE-AT (outBytes o) OUT (withState d (withOut (d .state) o))
 unfolding bytesOf

@@ -5,6 +5,7 @@ use port::types::BulkIn;
 use port::types::BulkOut;
 use port::types::InReply;
 use port::types::InTransfer;
+use port::types::InterruptIn;
 use port::types::OutMessage;
 use port::types::OutTransfer;
 use port::types::Port;
@@ -17,7 +18,7 @@ ghost use mathlib.Core.List.{[], _∷_};
 ghost use Prim.Native.Nat.{ℕ, _<_, _≤_};
 ghost use lib.ListN.{length, replicate};
 ghost use lib.Seq.{paste};
-ghost use Rattle.flat.specs.Flat.{PORT, OUT-MESSAGE, OUT-TRANSFER, IN-REPLY, IN-TRANSFER, SPLIT, PORT-AT, REMOTE-AT, OUT-MESSAGE-AT, OUT-HALTED-AT, OUT-TRANSFER-AT, OUT-RECENT-AT, IN-REPLY-AT, IN-TRANSFER-AT, IN-HALTED-AT, IN-RECENT-AT, SPLIT-AT, UNIT, placeOf, portBytes, outMessageBytes, outTransferBytes, inReplyBytes, inTransferBytes, splitBytes, bytesOf};
+ghost use Rattle.flat.specs.Flat.{PORT, OUT-MESSAGE, OUT-TRANSFER, IN-REPLY, IN-TRANSFER, INTERRUPT, SPLIT, PORT-AT, OUT-MESSAGE-AT, OUT-HALTED-AT, OUT-TRANSFER-AT, OUT-RECENT-AT, IN-REPLY-AT, IN-TRANSFER-AT, IN-HALTED-AT, IN-RECENT-AT, INTERRUPT-AT, INTERRUPT-HALTED-AT, SPLIT-AT, REMOTE-AT, UNIT, placeOf, portBytes, outMessageBytes, outTransferBytes, inReplyBytes, inTransferBytes, interruptBytes, splitBytes, bytesOf};
 ghost use Rattle.flat.specs.Sides.{OUT, IN, STATE, outBytes, inBytes};
 
 // ** a part in its place
@@ -35,14 +36,6 @@ pub fn put_port(u: &mut [u8], p: Port)
 {
     let b = bytes::port_bytes(p);
     copy_in(u, places::PORT_AT, &b, 0, bytes::PORT);
-}
-
-pub fn put_remote(u: &mut [u8], r: Remote)
-    requires { ⌜ UNIT ≤ length (now u) ⌝ }
-    ensures { λ _. ⌜ now (u .exit) ≡ paste (now (u .entry)) REMOTE-AT (placeOf r ∷ []) 1 ⌝ }
-{
-    let place = bytes::place_of(r);
-    put_byte(u, places::REMOTE_AT, place);
 }
 
 pub fn put_out_message(u: &mut [u8], m: OutMessage)
@@ -105,12 +98,35 @@ pub fn put_in_recent(u: &mut [u8], tag: u8)
     put_byte(u, places::IN_RECENT_AT, tag);
 }
 
+pub fn put_interrupt(u: &mut [u8], i: InterruptIn)
+    requires { ⌜ UNIT ≤ length (now u) ⌝ }
+    ensures { λ _. ⌜ now (u .exit) ≡ paste (now (u .entry)) INTERRUPT-AT (interruptBytes i) INTERRUPT ⌝ }
+{
+    let b = bytes::interrupt_bytes(i);
+    copy_in(u, places::INTERRUPT_AT, &b, 0, bytes::INTERRUPT);
+}
+
+pub fn put_interrupt_halted(u: &mut [u8], halted: u8)
+    requires { ⌜ UNIT ≤ length (now u) ⌝ }
+    ensures { λ _. ⌜ now (u .exit) ≡ paste (now (u .entry)) INTERRUPT-HALTED-AT (halted ∷ []) 1 ⌝ }
+{
+    put_byte(u, places::INTERRUPT_HALTED_AT, halted);
+}
+
 pub fn put_split(u: &mut [u8], s: Split)
     requires { ⌜ UNIT ≤ length (now u) ⌝ }
     ensures { λ _. ⌜ now (u .exit) ≡ paste (now (u .entry)) SPLIT-AT (splitBytes s) SPLIT ⌝ }
 {
     let b = bytes::split_bytes(s);
     copy_in(u, places::SPLIT_AT, &b, 0, bytes::SPLIT);
+}
+
+pub fn put_remote(u: &mut [u8], r: Remote)
+    requires { ⌜ UNIT ≤ length (now u) ⌝ }
+    ensures { λ _. ⌜ now (u .exit) ≡ paste (now (u .entry)) REMOTE-AT (placeOf r ∷ []) 1 ⌝ }
+{
+    let place = bytes::place_of(r);
+    put_byte(u, places::REMOTE_AT, place);
 }
 
 // ** parts one behind the other
@@ -142,10 +158,11 @@ pub fn put_state(u: &mut [u8], st: State)
     let split = st.split;
     let remote = st.remote;
     put_port(u, st.small.port);
-    put_remote(u, remote);
     put_out(u, st.small.bulkout);
     put_in(u, st.small.bulkin);
+    put_interrupt(u, st.small.interrupt);
     put_split(u, split);
+    put_remote(u, remote);
 }
 
 // The first n bytes are 0.

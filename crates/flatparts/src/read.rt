@@ -3,6 +3,7 @@ use flat::bytes;
 use flat::places;
 use port::types::BulkIn;
 use port::types::BulkOut;
+use port::types::InterruptIn;
 use port::types::Port;
 use port::types::Remote;
 use port::types::Small;
@@ -13,7 +14,7 @@ ghost use mathlib.Core.Path.{_≡_};
 ghost use Prim.Native.Nat.{ℕ, _+_, _≤_};
 ghost use lib.ListN.{length};
 ghost use Rattle.rules.specs.Choice.{_and_};
-ghost use Rattle.port.specs.Parts.{portOf, outOf, inOf};
+ghost use Rattle.port.specs.Parts.{portOf, outOf, inOf, interruptOf};
 ghost use Rattle.port.specs.Sound.{sound};
 ghost use Rattle.flat.specs.Flat.{UNIT, part, stateIn, isUnit, Bytes};
 
@@ -61,6 +62,13 @@ pub fn in_of(u: &[u8]) -> BulkIn
     }
 }
 
+pub fn interrupt_of(u: &[u8]) -> InterruptIn
+    requires { ⌜ UNIT ≤ length (now u) ⌝ }
+    ensures { λ r. ⌜ r ≡ interruptOf (stateIn (now (u .entry))) ⌝ }
+{
+    bytes::interrupt_in(part(u, places::INTERRUPT_AT, bytes::INTERRUPT))
+}
+
 pub fn split_of(u: &[u8]) -> Split
     requires { ⌜ UNIT ≤ length (now u) ⌝ }
     ensures { λ r. ⌜ r ≡ stateIn (now (u .entry)) .split ⌝ }
@@ -88,6 +96,7 @@ pub fn state_of(u: &[u8]) -> State
     let port = port_of(u);
     let bulkout = out_of(u);
     let bulkin = in_of(u);
+    let interrupt = interrupt_of(u);
     let split = split_of(u);
     let remote = remote_of(u);
     State {
@@ -95,6 +104,7 @@ pub fn state_of(u: &[u8]) -> State
             port,
             bulkout,
             bulkin,
+            interrupt,
         },
         split,
         remote,

@@ -1,2 +1,3 @@
-// A Bulk-IN poll, on the unit in bytes: it is decided over the state, and writes no more than the parts that it sets.
-pub mod poll;
+// The polls, on the unit in bytes: each is decided over the state, and writes no more than the parts that it sets.
+pub mod interrupt; // of Interrupt-IN
+pub mod poll; // of Bulk-IN

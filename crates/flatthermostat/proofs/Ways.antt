@@ -10,7 +10,8 @@ use Rattle.rules.specs.Answers.{DONE, only}
 use Rattle.rules.proofs.Choice.{refuses, passes}
 use Rattle.wire.specs.Bytes.{into}
 use Rattle.wire.proofs.Fronts.{front-pasted}
-use Rattle.port.specs.Parts.{STORE, withStatus, withRemote, noMessage, portOf, outOf}
+use Rattle.port.specs.Parts.{STORE, withRemote, noMessage, outOf, interruptOf}
+use Rattle.port.specs.Interrupt.{statusHeld}
 use Rattle.port.specs.Remote.{byPanel}
 use Rattle.port.specs.Answer.{number, refuse}
 use Rattle.port.specs.Device.{heldOf, withState}
@@ -19,8 +20,8 @@ use Rattle.port.specs.Step.{quiet, take-into, offer-reply, set-status, front-pa
 use Rattle.port.specs.declared.types.Remote.{Remote}
 use Rattle.port.proofs.Calls.{unstored}
 use Rattle.messages.proofs.MessageLaws.{take-refused, take-done, take-fits, offer-refused, offer-done, offer-fits}
-use Rattle.flat.specs.Flat.{PORT, OUT-MESSAGE, IN-REPLY, REPLY-AT, PORT-AT, REMOTE-AT, OUT-MESSAGE-AT, IN-REPLY-AT, portBytes, placeOf, outMessageBytes, inReplyBytes, stateIn, opened}
-use Rattle.flatparts.proofs.Puts.{Holds, port-put, remote-put, out-message-put, in-reply-put, reply-put}
+use Rattle.flat.specs.Flat.{OUT-MESSAGE, IN-REPLY, INTERRUPT, REPLY-AT, OUT-MESSAGE-AT, IN-REPLY-AT, INTERRUPT-AT, REMOTE-AT, placeOf, outMessageBytes, inReplyBytes, interruptBytes, stateIn, opened}
+use Rattle.flatparts.proofs.Puts.{Holds, out-message-put, in-reply-put, interrupt-put, remote-put, reply-put}
 use Rattle.flatcalls.specs.Promise.{IsNumber, onBytes, answerOf, Leaves, Fills}
 use Rattle.flatcalls.specs.declared.types.Answer.{Answer}
 use Rattle.flatcalls.proofs.Called.{holds, leaves, fills, refusal, refusal-into, is-sound, by-rules, state-sound}
@@ -34,14 +35,14 @@ module _ (u : List ℕ) (n : ℕ) (u′ : List ℕ) (r : Answer) where
       unfolding opened soundly quietly setStatus statusSet
       status-refused e a = refusal u (quiet (set-status status)) is (λ _ g. sym (ap (said (opened u)) (refuses (refuse (stateIn u)) (thermostatRules (stateIn u)) _ n tt g e))) r a
 
-      pub status-done : n ≡ 0 → u′ ≡ paste u PORT-AT (portBytes (withStatus (portOf (stateIn u)) status)) PORT → r ≡ answerOf (number DONE) → Leaves (onBytes u (quiet (set-status status))) u′ r
+      pub status-done : n ≡ 0 → u′ ≡ paste u INTERRUPT-AT (interruptBytes (statusHeld (interruptOf (stateIn u)) status)) INTERRUPT → r ≡ answerOf (number DONE)
+          → Leaves (onBytes u (quiet (set-status status))) u′ r
       unfolding opened soundly quietly setStatus statusSet
       status-done z f a =
           let c = quiet (set-status status) in
           let e = is-sound is z in
-          let p = withStatus (portOf (stateIn u)) status in
           leaves u (is .lent) c e _ (sym (ap (said (opened u)) (passes (refuse (stateIn u)) (thermostatRules (stateIn u)) _ n tt (by-rules is z) z))) u′ r
-          (port-put p .to (holds u (is .lent) e) f) a
+          (interrupt-put (statusHeld (interruptOf (stateIn u)) status) .to (holds u (is .lent) e) f) a
 
     pub panel-refused : (n ≡ 0 → ⊥) → r ≡ answerOf (number n) → Leaves (onBytes u (quiet front-panel)) u r
     unfolding opened soundly quietly panel returned

@@ -5,14 +5,15 @@ use flat::places::UNIT;
 use flatcalls::answer::numbered;
 use flatcalls::types::Answer;
 use flatparts::put::put_in_reply;
+use flatparts::put::put_interrupt;
 use flatparts::put::put_out_message;
-use flatparts::put::put_port;
 use flatparts::put::put_remote;
+use flatparts::read::interrupt_of;
 use flatparts::read::is_sound;
 use flatparts::read::out_of;
-use flatparts::read::port_of;
 use flatparts::read::remote_of;
 use flatparts::read::state_of;
+use interrupts::part::status_held;
 use messages::offer::offer_gate;
 use messages::take::take_gate;
 use port::types::InReply;
@@ -21,7 +22,6 @@ use rules::DONE;
 use rules::UNSOUND;
 use rules::verdict::only;
 use state::parts::no_message;
-use state::parts::with_status;
 use wire::copies::copy_in;
 use wire::numbers::widened;
 ghost use mathlib.Core.Path.{_≡_};
@@ -104,8 +104,8 @@ pub fn set_status(u: &mut [u8; UNIT], status: u8) -> Answer
     if number != 0 {
         return numbered(number);
     }
-    let p = port_of(u);
-    put_port(u, with_status(p, status));
+    let i = interrupt_of(u);
+    put_interrupt(u, status_held(i, status));
     numbered(DONE)
 }
 

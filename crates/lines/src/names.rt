@@ -6,6 +6,7 @@ pub enum Name {
     Setup,
     Out,
     In,
+    Interrupt,
     Take,
     Offer,
     Status,
@@ -13,6 +14,7 @@ pub enum Name {
     Reset,
     Suspend,
     State,
+    More,
     Unknown,
 }
 
@@ -34,6 +36,12 @@ fn short_name(word: &[u8]) -> Name {
     }
     if same(word, b"take") {
         return Name::Take;
+    }
+    if same(word, b"in3") {
+        return Name::Interrupt;
+    }
+    if same(word, b"more") {
+        return Name::More;
     }
     Name::Unknown
 }
@@ -79,11 +87,13 @@ pub fn least_words(name: Name) -> usize {
     match name {
         Name::Power | Name::Setup | Name::Out | Name::Offer | Name::Status => 1,
         Name::In
+        | Name::Interrupt
         | Name::Take
         | Name::Local
         | Name::Reset
         | Name::Suspend
         | Name::State
+        | Name::More
         | Name::Unknown => 0,
     }
 }
@@ -91,8 +101,14 @@ pub fn least_words(name: Name) -> usize {
 // The most words behind a name. Of a name that is unknown any number is taken: the name is what is wrong.
 pub fn most_words(name: Name) -> usize {
     match name {
-        Name::Local | Name::Reset | Name::Suspend | Name::State => 0,
-        Name::Power | Name::Out | Name::In | Name::Take | Name::Offer | Name::Status => 1,
+        Name::Local | Name::Reset | Name::Suspend | Name::State | Name::More => 0,
+        Name::Power
+        | Name::Out
+        | Name::In
+        | Name::Interrupt
+        | Name::Take
+        | Name::Offer
+        | Name::Status => 1,
         Name::Setup => 2,
         Name::Unknown => 3,
     }

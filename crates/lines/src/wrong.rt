@@ -57,7 +57,7 @@ pub fn unknown_name(out: &mut [u8], at: usize, name: &[u8]) -> usize {
         out,
         at,
         name,
-        b" is no call: use power, setup, out, in, take, offer, status, local, reset, suspend or state",
+        b" is no call: use power, setup, out, in, in3, take, offer, status, local, reset, suspend, state or more",
     )
 }
 

@@ -72,6 +72,7 @@ module _ (u : Device) (stored : Stored u) (h : Sound (u .state)) where
       reply = let r = h .inward .reply in omega arith;
       phase = phase-of _ _ (phase-to (inOf (u .state) .reply .unsent) (inOf (u .state) .transfer) (h .inward .phase));
     };
+    interrupt = h .interrupt;
     split = in-split (u .state .split) _ (inOf (u .state)) _ (h .split) (λ e. e) (λ e. let c = clears (u .state) h e in (c .unsent, c .in-tag, c .phase));
   }
 

@@ -10,8 +10,8 @@ use lib.ListN.{replicate}
 use Rattle.rules.specs.Answers.{DONE, UNSOUND}
 use Rattle.wire.specs.Header.{OFF}
 use Rattle.port.specs.Device.{Device, Result, isSound, made, powerOn}
-use Rattle.port.specs.Step.{in-poll, offer-reply, set-status, front-panel, bus-suspend, Call, out-packet, take-into, bus-reset, quiet, setup-of, step, after}
-use Rattle.port.specs.Lists.{Kind, setup, out, poll, taking, offering, status, panel, reset, suspending, kindOf, own}
+use Rattle.port.specs.Step.{in-poll, interrupt-poll, offer-reply, set-status, front-panel, bus-suspend, Call, out-packet, take-into, bus-reset, quiet, setup-of, step, after}
+use Rattle.port.specs.Lists.{Kind, setup, out, poll, interrupting, taking, offering, status, panel, reset, suspending, kindOf, own}
 use Rattle.port.specs.Laws.{OneOf, Reachable, Answered, EachAnswered}
 use Rattle.port.specs.Cases.{packet, message, request}
 use Rattle.port.proofs.Opened.{computed}
@@ -88,6 +88,14 @@ witnesses poll =
     ∷ on-behind (halt 0x82 ∷ []) (quiet (in-poll 64))
     ∷ on-behind [] (quiet (in-poll 64))
     ∷ []
+witnesses interrupting =
+    on-behind (quiet (set-status 64) ∷ []) (quiet (interrupt-poll 2))
+    ∷ on-unsound (quiet (interrupt-poll 2))
+    ∷ on-fresh (quiet (interrupt-poll 2))
+    ∷ on-behind (quiet (set-status 64) ∷ []) (quiet (interrupt-poll 1))
+    ∷ on-behind (quiet (set-status 64) ∷ halt 0x83 ∷ []) (quiet (interrupt-poll 2))
+    ∷ on-behind [] (quiet (interrupt-poll 2))
+    ∷ []
 witnesses taking =
     on-behind (whole ∷ []) (take-into 1)
     ∷ on-unsound (take-into 1)
@@ -123,6 +131,7 @@ unfolding computed witnesses own
 answer setup = refl
 answer out = refl
 answer poll = refl
+answer interrupting = refl
 answer taking = refl
 answer offering = refl
 answer status = refl
@@ -135,6 +144,7 @@ unfolding witnesses
 fitting setup = (refl, (refl, (refl, (refl, tt))))
 fitting out = (refl, (refl, (refl, (refl, (refl, (refl, (refl, (refl, (refl, (refl, (refl, (refl, (refl, (refl, (refl, tt)))))))))))))))
 fitting poll = (refl, (refl, (refl, (refl, (refl, (refl, tt))))))
+fitting interrupting = (refl, (refl, (refl, (refl, (refl, (refl, tt))))))
 fitting taking = (refl, (refl, (refl, (refl, (refl, tt)))))
 fitting offering = (refl, (refl, (refl, (refl, (refl, tt)))))
 fitting status = (refl, (refl, (refl, tt)))

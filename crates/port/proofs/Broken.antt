@@ -13,7 +13,7 @@ use Rattle.rules.proofs.Choice.{pick-all, decide-all, eq-neb, and-left, and-rig
 use Rattle.wire.specs.Bytes.{byte}
 use Rattle.wire.specs.Header.{OFF, ON}
 use Rattle.wire.specs.Setup.{readSetup}
-use Rattle.wire.specs.declared.types.Endpoint.the-variants.{Out, In}
+use Rattle.wire.specs.declared.types.Endpoint.the-variants.{Out, In, Interrupt}
 use Rattle.wire.specs.declared.types.Row.{Row}
 use Rattle.wire.specs.declared.types.Row.the-variants.{InitiateAbortBulkOut, CheckAbortBulkOutStatus, InitiateAbortBulkIn, CheckAbortBulkInStatus, InitiateClear, CheckClearStatus, GetCapabilities, IndicatorPulse, ReadStatusByte, RenControl, GoToLocal, LocalLockout, ClearFeature, SetFeature, GetStatus}
 use Rattle.wire.specs.declared.types.Setup.{Setup}
@@ -76,8 +76,10 @@ row-drops st GoToLocal = λ e. absurd (false≢true e)
 row-drops st LocalLockout = λ e. absurd (false≢true e)
 row-drops st (ClearFeature Out) = λ _. broken-dropped _ (outOf st)
 row-drops st (ClearFeature In) = λ e. absurd (false≢true e)
+row-drops st (ClearFeature Interrupt) = λ e. absurd (false≢true e)
 row-drops st (SetFeature Out) = λ _. broken-dropped ON (outOf st)
 row-drops st (SetFeature In) = λ e. absurd (false≢true e)
+row-drops st (SetFeature Interrupt) = λ e. absurd (false≢true e)
 row-drops st (GetStatus endpoint) = λ e. absurd (false≢true e)
 
 -- a refusal of setup is no break

@@ -23,16 +23,17 @@ use Rattle.wire.specs.declared.types.Row.{Row}
 use Rattle.wire.specs.declared.types.Row.the-variants.{InitiateAbortBulkOut, CheckAbortBulkOutStatus, InitiateAbortBulkIn, CheckAbortBulkInStatus, InitiateClear, CheckClearStatus, GetCapabilities, IndicatorPulse, ReadStatusByte, RenControl, GoToLocal, LocalLockout, ClearFeature, SetFeature, GetStatus}
 use Rattle.wire.specs.declared.types.Setup.{Setup}
 use Rattle.wire.specs.declared.types.Setup.the-variants.{Configure, Asks, NoRow}
-use Rattle.wire.proofs.SetupLaws.{Configures, setup-configures}
-use Rattle.port.specs.Parts.{STORE, FULL-SPEED, isSize, CLOSED, OWED, isOwed, isOpenOut, isOpenIn, hasReply, isClear, portOf, outOf, inOf, packetSize, isConfigured, haltedOut}
+use Rattle.wire.proofs.SetupLaws.{InRange, setup-ranged}
+use Rattle.port.specs.Parts.{STORE, FULL-SPEED, isSize, CLOSED, OWED, isOwed, isOpenOut, isOpenIn, hasReply, isClear, portOf, outOf, inOf, interruptOf, packetSize, isConfigured, haltedOut}
 use Rattle.port.specs.Answer.{Said, number, refuse}
 use Rattle.port.specs.Out.{plain, planned, accepted, outPlan, dataLength}
 use Rattle.port.specs.In.{nothingToSend, inRules, poll}
-use Rattle.port.specs.Rows.{Reaction, answering, abortRules, outTag, inTag, initiateAbortOut, initiateAbortIn, checkAbortOut, checkAbortIn, initiateClear, checkClear, answerRow}
+use Rattle.port.specs.Interrupt.{isWaiting, interruptRules, interruptPoll}
+use Rattle.port.specs.Rows.{Reaction, answering, abortRules, outTag, inTag, initiateAbortOut, initiateAbortIn, checkAbortOut, checkAbortIn, initiateClear, checkClear, readStatus, answerRow}
 use Rattle.port.specs.Device.{Device, Result, isSound, withState, unsentOf, zeroed, made, powerOn}
-use Rattle.port.specs.Calls.{refused, said, carriedOut, bulkOut, bulkIn, setupRules, asked, setupOutcome, answered, setup, takeRules, taking, take-message, offerRules, offerPlan, withReply, offer, thermostatRules, statusSet, setStatus, returned, panel, busReset, suspend}
-use Rattle.port.specs.Step.{in-poll, offer-reply, set-status, front-panel, bus-suspend, SetupPacket, Call, setup-packet, out-packet, take-into, bus-reset, quiet, quietly, soundly, step}
-use Rattle.port.specs.Lists.{bulk, faults, Kind, setup as setting-up, out, poll as polling, taking as takes, offering, status, panel as panels, reset, suspending, kindOf, own, ownList}
+use Rattle.port.specs.Calls.{refused, said, carriedOut, bulkOut, bulkIn, interruptIn, setupRules, asked, setupOutcome, answered, setup, takeRules, taking, take-message, offerRules, offerPlan, withReply, offer, thermostatRules, statusSet, setStatus, returned, panel, busReset, suspend}
+use Rattle.port.specs.Step.{in-poll, interrupt-poll, offer-reply, set-status, front-panel, bus-suspend, SetupPacket, Call, setup-packet, out-packet, take-into, bus-reset, quiet, quietly, soundly, step}
+use Rattle.port.specs.Lists.{bulk, faults, Kind, setup as setting-up, out, poll as polling, interrupting, taking as takes, offering, status, panel as panels, reset, suspending, kindOf, own, ownList}
 use Rattle.port.specs.Laws.{OneOf, Stored, PowerOnSound, PowerOnAnswers, KeepsSound, KeepsStored, UnsoundRefused, OnlyUnsound, OwnNumbers, LeftAs, LeavesTable, Zeroed, Zeroes}
 use Rattle.port.specs.declared.types.Setting.{Setting}
 use Rattle.port.specs.declared.types.Split.{Split}
@@ -46,7 +47,8 @@ use Rattle.port.specs.declared.types.SetupOutcome.the-variants.{Denies}
 use Rattle.port.proofs.Soundness.{Sound, sound-of, sound-to}
 use Rattle.port.proofs.Ways.{Continues, Heads, outcome-ways}
 use Rattle.port.proofs.KeepsOut.{cases, fresh-sound, halted-sound, data-sound, accept-sound}
-use Rattle.port.proofs.KeepsIn.{packet-sound, row-sound, local-sound, status-sound, remote-sound, released-sound, offered-sound}
+use Rattle.port.proofs.KeepsInterrupt.{held-interrupt, polled-interrupt}
+use Rattle.port.proofs.KeepsIn.{packet-sound, with-interrupt, row-sound, local-sound, remote-sound, released-sound, offered-sound}
 
 -- ** power-on
 
@@ -125,6 +127,7 @@ unfolding own
 unsound-own setting-up = inl refl
 unsound-own out = inl refl
 unsound-own polling = inl refl
+unsound-own interrupting = inl refl
 unsound-own takes = inl refl
 unsound-own offering = inl refl
 unsound-own status = inl refl
@@ -141,7 +144,7 @@ Zero r = r .answer .verdict .number ≡ DONE
 
 -- every row that is served is answered 0
 pub row-done : (st : State) (row : Row) → answerRow st row .answer .verdict .number ≡ DONE
-unfolding answerRow initiateAbortOut initiateAbortIn checkAbortOut checkAbortIn initiateClear checkClear
+unfolding answerRow initiateAbortOut initiateAbortIn checkAbortOut checkAbortIn initiateClear checkClear readStatus
 row-done st (InitiateAbortBulkOut tag) =
     decide-all Zero (λ status. answering (status ∷ outTag (outOf st) ∷ [])) (abortRules (st .split) (isOpenOut (outOf st)) (outTag (outOf st)) tag) _ (refl, (refl, (refl, tt))) (λ _. refl)
 row-done st CheckAbortBulkOutStatus = by (st .split)
@@ -164,7 +167,7 @@ row-done st InitiateClear = pick-all Zero (isClear (st .split)) _ _ (λ _. refl)
 row-done st CheckClearStatus = pick-all Zero _ _ _ (λ _. refl) (λ _. pick-all Zero (isOwed (inOf st)) _ _ (λ _. refl) (λ _. refl))
 row-done st GetCapabilities = refl
 row-done st IndicatorPulse = refl
-row-done st (ReadStatusByte tag) = refl
+row-done st (ReadStatusByte tag) = pick-all Zero (isWaiting (interruptOf st)) _ _ (λ _. refl) (λ _. refl)
 row-done st (RenControl ren) = refl
 row-done st GoToLocal = refl
 row-done st LocalLockout = refl
@@ -178,14 +181,15 @@ module _ (u : Device) (h : Sound (u .state)) where
   setup-way s room c k =
       decide-lines (λ (x : SetupOutcome). Way u c (answered u x)) Denies (setupRules (length s) room) _
       (λ _. keeps u c WRONG-SIZE (rw k (inr (inl refl))) refl (λ e. omega arith), tt)
-      (λ _. by (readSetup s) (setup-configures s))
+      (λ _. by (readSetup s) (setup-ranged s))
     where
       no-row : Way u c (refused u NO-ROW)
       no-row = keeps u c NO-ROW (rw k (inr (inr (inl refl)))) refl (λ e. omega arith)
 
-      by : (x : Setup) → Configures x → Way u c (answered u (asked (u .state) x))
+      by : (x : Setup) → InRange x → Way u c (answered u (asked (u .state) x))
       by (Configure value) k = does _ refl (fresh-sound (portOf (u .state) .setting) value (h .port .size) k) (λ _. zeroed-stored (portOf (u .state) .setting) value)
-      by (Asks row) k = pick-all (λ (x : SetupOutcome). Way u c (answered u x)) (isConfigured (u .state)) _ _ (λ _. does _ (row-done (u .state) row) (row-sound (u .state) h row) (stays u _)) (λ _. no-row)
+      by (Asks row) k = pick-all (λ (x : SetupOutcome). Way u c (answered u x)) (isConfigured (u .state)) _ _
+          (λ _. does _ (row-done (u .state) row) (row-sound (u .state) h row k) (stays u _)) (λ _. no-row)
       by NoRow k = no-row
 
   -- ** Bulk-OUT
@@ -309,6 +313,29 @@ module _ (u : Device) (h : Sound (u .state)) where
       open-now : nothingToSend (inOf (u .state)) ≡ false → inOf (u .state) .transfer .phase ≡ CLOSED → ⊥
       open-now n z = true≢false (sym (or-left _ _ (no-true _ (eq-neb _ _ z))) ∙ not-both _ _ n (no-true _ (ne-eqb (inOf (u .state) .transfer .phase) OWED (λ e. omega arith))))
 
+  -- ** Interrupt-IN
+
+  interrupt-way : (room : ℕ) → Way u (quiet (interrupt-poll room)) (interruptIn u room)
+  unfolding interruptIn interruptPoll own leaves
+  interrupt-way room =
+      decide-lines (λ (r : Said). Way u c (said u r)) (refuse (u .state)) (interruptRules (u .state) room) _ (
+        λ _. k UNCONFIGURED tt refl (λ e. omega arith),
+        (
+          λ _. k WRONG-SIZE tt refl (λ e. omega arith),
+          (
+            λ _. k HALTED tt refl (λ e. omega arith),
+            (λ _. k WAIT tt refl (λ e. omega arith), tt),
+          ),
+        ),
+      )
+      (λ _. does _ refl (with-interrupt (u .state) h _ (polled-interrupt _ (h .interrupt))) (stays u _))
+    where
+      c : Call
+      c = quiet (interrupt-poll room)
+
+      k : (n : ℕ) → T (elem n (bulk [])) → leaves n ≡ unchanged → (n ≡ UNSOUND → ⊥) → Way u (quiet (interrupt-poll room)) (refused u n)
+      k n o l e = keeps u (quiet (interrupt-poll room)) n (one n (bulk []) o) l e
+
   -- ** the thermostat's calls
 
   take-way : (room : ℕ) → Way u (take-into room) (take-message u room)
@@ -357,8 +384,9 @@ module _ (u : Device) (h : Sound (u .state)) where
   sound-way (take-into room) = take-way room
   sound-way bus-reset = does _ refl (fresh-sound (portOf (u .state) .setting) OFF (h .port .size) (omega arith)) (λ _. zeroed-stored (portOf (u .state) .setting) OFF)
   sound-way (quiet (in-poll room)) = in-way room
+  sound-way (quiet (interrupt-poll room)) = interrupt-way room
   sound-way (quiet (offer-reply bytes)) = offer-way bytes
-  sound-way (quiet (set-status value)) = thermostat-way (quiet (set-status value)) _ (inr (inl refl)) (does _ refl (status-sound (u .state) h value) (stays u _))
+  sound-way (quiet (set-status value)) = thermostat-way (quiet (set-status value)) _ (inr (inl refl)) (does _ refl (with-interrupt (u .state) h _ (held-interrupt _ (h .interrupt) value)) (stays u _))
   sound-way (quiet front-panel) = thermostat-way (quiet front-panel) _ (inr (inl refl)) (does _ refl (remote-sound (u .state) h _) (stays u _))
   sound-way (quiet bus-suspend) = does _ refl (local-sound (u .state) h) (stays u _)
 

@@ -11,6 +11,7 @@ use Rattle.port.specs.Sound.{sound}
 use Rattle.port.specs.declared.types.Port.{Port}
 use Rattle.port.specs.declared.types.BulkOut.{BulkOut}
 use Rattle.port.specs.declared.types.BulkIn.{BulkIn}
+use Rattle.port.specs.declared.types.InterruptIn.{InterruptIn}
 use Rattle.port.specs.declared.types.Split.{Split}
 use Rattle.port.specs.declared.types.Split.the-variants.{None, AbortOut, AbortIn, Clear}
 use Rattle.port.specs.declared.types.Remote.the-variants.{Locs}
@@ -19,7 +20,7 @@ use Rattle.port.proofs.Opened.{computed}
 
 -- packet size, configured, REN
 abbrev port : ℕ → ℕ → ℕ → Port
-port packet configured ren = record { setting = record { packet = packet }; configured = configured; ren = ren; status = 0 }
+port packet configured ren = record { setting = record { packet = packet }; configured = configured; ren = ren }
 
 -- halted, ready, most recent tag; held, left, got, end
 abbrev out : ℕ → ℕ → ℕ → ℕ → ℕ → ℕ → ℕ → BulkOut
@@ -31,8 +32,15 @@ abbrev inward : ℕ → ℕ → ℕ → ℕ → ℕ → ℕ → ℕ → ℕ → 
 inward halted recent at unsent phase tag asked enabled term left sent =
     record { reply = record { at = at; unsent = unsent }; transfer = transferIn phase tag asked enabled term left sent; halted = halted; recent = recent }
 
+-- status byte; first and second byte of the packet that waits; halted
+abbrev interrupt : ℕ → ℕ → ℕ → ℕ → InterruptIn
+interrupt status notify1 notify2 halted = record { status = status; waiting = record { notify1 = notify1; notify2 = notify2 }; halted = halted }
+
+abbrev whole : Port → BulkOut → BulkIn → InterruptIn → Split → State
+whole p o b i s = record { small = record { port = p; bulkout = o; bulkin = b; interrupt = i }; split = s; remote = Locs }
+
 abbrev state : Port → BulkOut → BulkIn → Split → State
-state p o b s = record { small = record { port = p; bulkout = o; bulkin = b }; split = s; remote = Locs }
+state p o b s = whole p o b (interrupt 0 0 0 0) s
 
 -- ** sound parts to start from
 
@@ -57,6 +65,9 @@ with-out o = state fine o closed None
 abbrev with-in : BulkIn → State
 with-in b = state fine resting b None
 
+abbrev with-interrupt : InterruptIn → State
+with-interrupt i = whole fine resting closed i None
+
 unfoldable pub good : List State
 good =
     with-port fine
@@ -71,6 +82,12 @@ good =
     ∷ with-in (inward 0 1 0 100 1 1 1024 1 10 0 0)
     ∷ with-in (inward 0 1 52 48 2 1 0 0 0 48 52)
     ∷ with-in (inward 0 1 52 0 2 1 0 0 0 0 52)
+    -- a status byte with no packet; a service request, one more kept behind it; the packets of the least and the largest tag, halted
+    ∷ with-interrupt (interrupt 0xBF 0 0 0)
+    ∷ with-interrupt (interrupt 0x10 0x81 0x50 0)
+    ∷ with-interrupt (interrupt 0x51 0x81 0x50 0)
+    ∷ with-interrupt (interrupt 0x10 0x82 0x10 1)
+    ∷ with-interrupt (interrupt 0x50 0xFF 0xBF 1)
     -- the splits
     ∷ state fine (out 1 0 1 0 0 0 0) closed (AbortOut 1024)
     ∷ state fine resting owing (AbortIn 1024)
@@ -131,6 +148,15 @@ bad =
     -- owed: no tag, something left over
     ∷ state fine resting (inward 0 1 0 0 3 0 0 0 0 0 0) (AbortIn 0)
     ∷ state fine resting (inward 0 1 0 0 3 1 1 0 0 0 0) (AbortIn 0)
+    -- Interrupt-IN: the halt's flag; a second byte and no first; a service request with bit 6 off, a status byte that was read with bit 6 on; first bytes that
+    -- are no packet's; bit 6 on with no packet waiting
+    ∷ with-interrupt (interrupt 0 0 0 2)
+    ∷ with-interrupt (interrupt 0 0 1 0)
+    ∷ with-interrupt (interrupt 0 0x81 0x10 0)
+    ∷ with-interrupt (interrupt 0 0x82 0x50 0)
+    ∷ with-interrupt (interrupt 0 0x80 0x10 0)
+    ∷ with-interrupt (interrupt 0 0x01 0x50 0)
+    ∷ with-interrupt (interrupt 0x40 0 0 0)
     -- a packet owed with no split, or in abort-OUT; an abort-OUT that does not halt; counts that no store holds
     ∷ state fine resting owing None
     ∷ state fine (out 1 0 1 0 0 0 0) owing (AbortOut 0)
@@ -146,10 +172,10 @@ bad =
     ∷ state fine (out 1 0 0 0 0 0 0) (inward 0 0 0 0 1 1 1 0 0 0 0) Clear
     ∷ []
 
-pub good-sound : map sound good ≡ replicate 15 true
+pub good-sound : map sound good ≡ replicate 20 true
 unfolding computed good
 good-sound = refl
 
-pub bad-caught : map sound bad ≡ replicate 53 false
+pub bad-caught : map sound bad ≡ replicate 60 false
 unfolding computed bad
 bad-caught = refl

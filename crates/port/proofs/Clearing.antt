@@ -17,7 +17,7 @@ use Rattle.wire.specs.declared.types.Row.{Row}
 use Rattle.wire.specs.declared.types.Row.the-variants.{InitiateClear, CheckClearStatus, ClearFeature}
 use Rattle.wire.specs.declared.types.Setup.{Setup}
 use Rattle.wire.specs.declared.types.Setup.the-variants.{Asks}
-use Rattle.port.specs.Parts.{ASKED, isOpenIn, isOwed, isClear, portOf, inOf, packetSize, isConfigured, withIn, shut}
+use Rattle.port.specs.Parts.{ASKED, isOpenIn, isOwed, isClear, inOf, packetSize, isConfigured, withIn, withInHalted, shut}
 use Rattle.port.specs.declared.types.SetupOutcome.{SetupOutcome}
 use Rattle.port.specs.declared.types.SetupOutcome.the-variants.{Denies}
 use Rattle.port.specs.declared.types.Effect.the-variants.{ClearsHalt}
@@ -215,7 +215,7 @@ packet-survive st p x =
     (λ _. pick-all (λ (b : BulkIn). Kept st (withIn st b)) _ _ _ (λ _. ap over begun-halted) (λ _. ap over begun-halted))
   where
     over : ℕ → Survivors
-    over halted = record { ren = portOf st .ren; remote = st .remote; status = portOf st .status; halted = halted }
+    over halted = survivors (withIn st (withInHalted (inOf st) halted))
 
     begun-halted : started (inOf st) x .halted ≡ inOf st .halted
     begun-halted = pick-all (λ (b : BulkIn). b .halted ≡ inOf st .halted) (inOf st .transfer .phase =ᵇ ASKED) _ _ (λ _. refl) (λ _. refl)

@@ -15,25 +15,25 @@ use Rattle.rules.specs.When.{Not}
 use Rattle.rules.proofs.Choice.{pick-all, decide-all, at-true, at-false, ne-neb, neb-ne, neb-eq, Each}
 use Rattle.rules.proofs.When.{Tells, differs, negated, sure, By, line}
 use Rattle.wire.specs.Bytes.{bytes4}
-use Rattle.wire.specs.Header.{ON}
+use Rattle.wire.specs.Header.{OFF, ON}
 use Rattle.wire.specs.Setup.{readSetup}
 use Rattle.wire.specs.When.{at, rows}
-use Rattle.wire.specs.declared.types.Endpoint.the-variants.{Out, In}
+use Rattle.wire.specs.declared.types.Endpoint.the-variants.{Out, In, Interrupt}
 use Rattle.wire.specs.declared.types.Row.{Row}
 use Rattle.wire.specs.declared.types.Row.the-variants.{ClearFeature, SetFeature, GetStatus}
 use Rattle.wire.specs.declared.types.Setup.{Setup}
 use Rattle.wire.proofs.When.{Right, matched, unmatched, setup-read}
-use Rattle.port.specs.Parts.{isOpenIn, isOwed, isNone, keepsHalt, isClear, outOf, inOf, isConfigured, noMessage, withSplit, fresh, broken, shut}
+use Rattle.port.specs.Parts.{isOpenIn, isOwed, isNone, keepsHalt, isClear, outOf, inOf, interruptOf, isConfigured, noMessage, withInterrupt, withSplit, withInterruptHalted, fresh, broken, shut}
 use Rattle.port.specs.Rows.{Reaction, answering, reacts, abortRules, inTag, initiateAbortOut, initiateAbortIn, wrongSplit, checkAbortOut, checkAbortIn, initiateClear, checkClear}
 use Rattle.port.specs.Rows.{answerRow, clearing, clearFeatureOut, clearFeatureIn, effected}
 use Rattle.port.specs.Device.{Device, Result, isSound, withState, made}
 use Rattle.port.specs.Calls.{setupRules, asked, setupOutcome, answered, setup}
 use Rattle.port.specs.Step.{out-packet, soundly, step}
-use Rattle.port.specs.When.{OutHalted, InHalted, InOpen, Owed}
+use Rattle.port.specs.When.{OutHalted, InHalted, InterruptHalted, InOpen, Owed}
 use Rattle.port.specs.Lists.{bulk, faults, own}
 use Rattle.port.specs.Laws.{OneOf, LeftAs}
 use Rattle.port.specs.Halts.{Dropped, SplitBecomes, abortStatus, Counts, On, AbortsOut, ChecksOut, AbortsIn, ChecksIn, Clears, ChecksClear}
-use Rattle.port.specs.Halts.{FreesOut, HaltsOut, FreesIn, HaltsIn, TellsHalt, Faults, Cleared, SplitsAndHalts}
+use Rattle.port.specs.Halts.{FreesOut, HaltsOut, FreesIn, HaltsIn, InterruptMoves, FreesInterrupt, HaltsInterrupt, TellsHalt, Faults, Cleared, SplitsAndHalts}
 use Rattle.port.specs.declared.types.OutMessage.{OutMessage}
 use Rattle.port.specs.declared.types.BulkOut.{BulkOut}
 use Rattle.port.specs.declared.types.BulkIn.{BulkIn}
@@ -136,7 +136,7 @@ abort-out u tag =
       halts = λ e. absurd (n e);
       tag-stays = refl;
       in-stays = (refl, refl);
-      panel-stays = (refl, refl);
+      panel-stays = (refl, refl, refl);
     })
     (λ given. record {
       status = given;
@@ -146,7 +146,7 @@ abort-out u tag =
       halts = λ _. (refl, broken-drops u _ ON refl refl);
       tag-stays = refl;
       in-stays = (refl, refl);
-      panel-stays = (refl, refl);
+      panel-stays = (refl, refl, refl);
     })
 
 abort-in : (u : Device) (tag : ℕ) → Does (AbortsIn tag) u (initiateAbortIn (u .state) tag)
@@ -163,7 +163,7 @@ abort-in u tag =
       halt-stays = refl;
       tag-stays = refl;
       out-stays = (refl, refl);
-      panel-stays = (refl, refl);
+      panel-stays = (refl, refl, refl);
     })
     (λ given. record {
       status = given;
@@ -175,7 +175,7 @@ abort-in u tag =
       halt-stays = refl;
       tag-stays = refl;
       out-stays = (refl, refl);
-      panel-stays = (refl, refl);
+      panel-stays = (refl, refl, refl);
     })
   where
     own-tag : InOpen u → inTag (inOf (u .state)) ≡ inOf (u .state) .transfer .tag
@@ -188,7 +188,7 @@ abort-in u tag =
 
 -- the split ends, and that is all
 ended : (u : Device) → SplitBecomes u None (withState u (withSplit (u .state) None))
-ended u = (refl, (refl, refl), (refl, refl), (refl, refl))
+ended u = (refl, (refl, refl), (refl, refl), (refl, refl, refl))
 
 -- no split is another
 never : _≡_ {A = ℕ} 0 1 → ⊥
@@ -273,7 +273,7 @@ clear u =
       owes = λ e. absurd (omega arith);
       none-owed = λ e. absurd (omega arith);
       in-halt-stays = refl;
-      panel-stays = (refl, refl);
+      panel-stays = (refl, refl, refl);
     })
     (λ c. record {
       status = inr (is-clear (u .state .split) .failed c, refl);
@@ -286,7 +286,7 @@ clear u =
       owes = λ _ o. side (λ b. (b .transfer .phase ≡ 3) × (b .transfer .tag ≡ inOf (u .state) .transfer .tag)) (λ _. (refl, refl)) (λ n. absurd (n o));
       none-owed = λ _ n. side (λ b. Not (Not (b .transfer .phase ≡ 0))) (λ o. absurd (n o)) (λ _ k. k refl);
       in-halt-stays = side (λ b. b .halted ≡ inOf (u .state) .halted) (λ _. refl) (λ _. refl);
-      panel-stays = (refl, refl);
+      panel-stays = (refl, refl, refl);
     })
   where
     -- what holds of the Bulk-IN side, whether a transfer was open or not
@@ -314,7 +314,7 @@ free-out u = record {
   tag-stays = refl;
   split-stays = refl;
   in-stays = (refl, refl);
-  panel-stays = (refl, refl);
+  panel-stays = (refl, refl, refl);
 }
 
 free-in : (u : Device) → Does FreesIn u (answerRow (u .state) (ClearFeature In))
@@ -327,7 +327,7 @@ free-in u = record {
   tag-stays = side (λ b. b .recent ≡ inOf (u .state) .recent) (λ _. refl) (λ _ _. refl) (λ _. refl);
   split-stays = refl;
   out-stays = (refl, refl);
-  panel-stays = (refl, refl);
+  panel-stays = (refl, refl, refl);
 }
   where
     -- what holds of the Bulk-IN side: a packet was owed, a transfer was open, or none was
@@ -337,11 +337,23 @@ free-in u = record {
 
 halt-out : (u : Device) → Does HaltsOut u (answerRow (u .state) (SetFeature Out))
 unfolding answerRow effected broken
-halt-out u = record { halts = (refl, broken-drops u _ _ refl refl); tag-stays = refl; split-stays = refl; in-stays = (refl, refl); panel-stays = (refl, refl) }
+halt-out u = record { halts = (refl, broken-drops u _ _ refl refl); tag-stays = refl; split-stays = refl; in-stays = (refl, refl); panel-stays = (refl, refl, refl) }
 
 halt-in : (u : Device) → Does HaltsIn u (answerRow (u .state) (SetFeature In))
 unfolding answerRow effected
-halt-in u = record { halts = refl; transfer-stays = refl; reply-stays = (refl, refl); tag-stays = refl; split-stays = refl; out-stays = (refl, refl); panel-stays = (refl, refl) }
+halt-in u = record { halts = refl; transfer-stays = refl; reply-stays = (refl, refl); tag-stays = refl; split-stays = refl; out-stays = (refl, refl); panel-stays = (refl, refl, refl) }
+
+-- the halt of Interrupt-IN alone
+interrupt-moves : (u : Device) (halted : ℕ) → InterruptMoves u (withState u (withInterrupt (u .state) (withInterruptHalted (interruptOf (u .state)) halted)))
+interrupt-moves u halted = record { status-stays = refl; packet-stays = refl; split-stays = refl; port-stays = (refl, refl); out-stays = (refl, refl); in-stays = (refl, refl) }
+
+free-interrupt : (u : Device) → Does FreesInterrupt u (answerRow (u .state) (ClearFeature Interrupt))
+unfolding answerRow effected
+free-interrupt u = (λ e. omega arith, interrupt-moves u OFF)
+
+halt-interrupt : (u : Device) → Does HaltsInterrupt u (answerRow (u .state) (SetFeature Interrupt))
+unfolding answerRow effected
+halt-interrupt u = (refl, interrupt-moves u ON)
 
 -- ** GET_STATUS
 
@@ -356,6 +368,10 @@ tell-out u h = tells u (outOf (u .state) .halted) (halt-flag (u .state) h)
 tell-in : (u : Device) → Sound (u .state) → Does (λ u. TellsHalt (InHalted u) u) u (answerRow (u .state) (GetStatus In))
 unfolding answerRow effected
 tell-in u h = tells u (inOf (u .state) .halted) (h .inward .halted)
+
+tell-interrupt : (u : Device) → Sound (u .state) → Does (λ u. TellsHalt (InterruptHalted u) u) u (answerRow (u .state) (GetStatus Interrupt))
+unfolding answerRow effected
+tell-interrupt u h = tells u (interruptOf (u .state) .halted) (h .interrupt .halted)
 
 -- ** a fault, SET_CONFIGURATION and reset
 
@@ -379,11 +395,19 @@ unfolding own broken
 fault u s l =
     subst (λ (r : Result). Faults u (r .unit))
     (sym (subst (λ (k : Leaves). LeftAs k u (step u (out-packet s))) (fault-leaves _ (own-numbers u (out-packet s)) l) (leaves-table u (out-packet s) (λ e. omega arith))))
-    (record { halts = (refl, broken-drops u _ _ refl refl); tag-stays = refl; split-stays = refl; in-stays = (refl, refl); panel-stays = (refl, refl) })
+    (record { halts = (refl, broken-drops u _ _ refl refl); tag-stays = refl; split-stays = refl; in-stays = (refl, refl); panel-stays = (refl, refl, refl) })
 
 cleared : (setting : Setting) (configured : ℕ) → Cleared (made setting configured)
 unfolding made fresh
-cleared setting configured = record { message-goes = (λ e. omega arith, refl, λ n. n refl); reply-goes = (refl, λ n. n refl); runs = (λ e. omega arith, λ e. omega arith); split = refl; tags = (refl, refl); panel = (refl, refl, refl) }
+cleared setting configured = record {
+  message-goes = (λ e. omega arith, refl, λ n. n refl);
+  reply-goes = (refl, λ n. n refl);
+  runs = (λ e. omega arith, λ e. omega arith, λ e. omega arith);
+  split = refl;
+  tags = (refl, refl);
+  panel = (refl, refl);
+  interrupt = (refl, refl);
+}
 
 -- ** THE LAW
 
@@ -400,8 +424,11 @@ splits-and-halts = record {
   frees-in = served _ FreesIn (λ u _. free-in u);
   halts-out = served _ HaltsOut (λ u _. halt-out u);
   halts-in = served _ HaltsIn (λ u _. halt-in u);
+  frees-interrupt = served _ FreesInterrupt (λ u _. free-interrupt u);
+  halts-interrupt = served _ HaltsInterrupt (λ u _. halt-interrupt u);
   tells-out = served _ (λ u. TellsHalt (OutHalted u) u) tell-out;
   tells-in = served _ (λ u. TellsHalt (InHalted u) u) tell-in;
+  tells-interrupt = served _ (λ u. TellsHalt (InterruptHalted u) u) tell-interrupt;
   faults = fault;
   configures = configures-anew Cleared cleared;
   resets = resets-anew Cleared cleared;

@@ -12,24 +12,28 @@ use Rattle.rules.specs.Choice.{_=ᵇ_, _<ᵇ_, no}
 use Rattle.rules.specs.Answers.{SUCCESS}
 use Rattle.rules.proofs.Choice.{pick-all, decide-all, at-true, at-false, neb-ne, not-no, none-right}
 use Rattle.wire.specs.Header.{OFF, ON}
-use Rattle.wire.specs.declared.types.Endpoint.the-variants.{Out, In}
+use Rattle.wire.specs.declared.types.Endpoint.the-variants.{Out, In, Interrupt}
 use Rattle.wire.specs.declared.types.Row.{Row}
+use Rattle.wire.proofs.SetupLaws.{Tagged}
 use Rattle.wire.specs.declared.types.Row.the-variants.{InitiateAbortBulkOut, CheckAbortBulkOutStatus, InitiateAbortBulkIn, CheckAbortBulkInStatus, InitiateClear, CheckClearStatus, GetCapabilities, IndicatorPulse, ReadStatusByte, RenControl, GoToLocal, LocalLockout, ClearFeature, SetFeature, GetStatus}
-use Rattle.port.specs.Parts.{STORE, CLOSED, ASKED, SENDING, OWED, on, isOpenOut, isOpenIn, isOwed, hasReply, isNone, keepsHalt, isClear, portOf, outOf, inOf, closedIn, owedIn, withPort, withOut, withIn, withSplit, withRemote, withRen, withStatus, withInHalted, emptyOut, emptyIn, broken, shut}
+use Rattle.port.specs.Parts.{STORE, CLOSED, ASKED, SENDING, OWED, on, isOpenOut, isOpenIn, isOwed, hasReply, isNone, keepsHalt, isClear, portOf, outOf, inOf, interruptOf, closedIn, owedIn, withPort, withOut, withIn, withInterrupt, withSplit, withRemote, withRen, withInHalted, withInterruptHalted, emptyOut, emptyIn, broken, shut}
 use Rattle.port.specs.Remote.{localNow}
+use Rattle.port.specs.Interrupt.{isWaiting}
 use Rattle.port.specs.In.{Packet, fixed, header, started, toGo, gone, send, nextPacket}
-use Rattle.port.specs.Rows.{Reaction, answering, reacts, abortRules, outTag, inTag, initiateAbortOut, initiateAbortIn, checkAbortOut, checkAbortIn, initiateClear, checkClear, answerRow, owing, clearing, clearFeatureOut, clearFeatureIn, effected}
+use Rattle.port.specs.Rows.{Reaction, answering, reacts, abortRules, outTag, inTag, initiateAbortOut, initiateAbortIn, checkAbortOut, checkAbortIn, initiateClear, checkClear, readStatus, answerRow, owing, clearing, clearFeatureOut, clearFeatureIn, effected}
 use Rattle.port.specs.Calls.{released, offered}
 use Rattle.port.specs.declared.types.Port.{Port}
 use Rattle.port.specs.declared.types.BulkOut.{BulkOut}
 use Rattle.port.specs.declared.types.InTransfer.{InTransfer}
 use Rattle.port.specs.declared.types.BulkIn.{BulkIn}
+use Rattle.port.specs.declared.types.InterruptIn.{InterruptIn}
 use Rattle.port.specs.declared.types.Remote.{Remote}
 use Rattle.port.specs.declared.types.Split.{Split}
 use Rattle.port.specs.declared.types.Split.the-variants.{None, AbortOut, AbortIn, Clear}
 use Rattle.port.specs.declared.types.Effect.the-variants.{AbortsOut, AbortsIn}
 use Rattle.port.specs.declared.types.State.{State}
-use Rattle.port.proofs.Soundness.{PortSound, OutSound, Idle, SendingIn, Phase, is-closed, is-asked, is-sending, is-owed, phase-kept, InSound, ClearSound, SplitSound, Sound}
+use Rattle.port.proofs.Soundness.{PortSound, OutSound, Idle, SendingIn, Phase, is-closed, is-asked, is-sending, is-owed, phase-kept, InSound, InterruptSound, ClearSound, SplitSound, Sound}
+use Rattle.port.proofs.KeepsInterrupt.{halted-interrupt, queued-interrupt}
 use Rattle.port.proofs.KeepsOut.{halt-flag, broken-sound, halted-sound}
 
 -- ** Bulk-IN
@@ -58,7 +62,7 @@ module _ (st : State) (h : Sound st) where
   clears = clear-in (st .split) _ _ (h .split)
 
   with-in : (b : BulkIn) → InSound b → (b .transfer .phase ≡ OWED → inOf st .transfer .phase ≡ OWED) → (isClear (st .split) ≡ true → (b .reply .unsent ≡ 0) × (b .recent ≡ 0) × ((b .transfer .phase ≡ CLOSED) ⊎ (b .transfer .phase ≡ OWED))) → Sound (withIn st b)
-  with-in b i p c = record { port = h .port; out = h .out; inward = i; split = in-split (st .split) _ _ b (h .split) p c }
+  with-in b i p c = record { port = h .port; out = h .out; inward = i; interrupt = h .interrupt; split = in-split (st .split) _ _ b (h .split) p c }
 
   pub shut-in-sound : Sound (withIn st (shut (inOf st)))
   unfolding shut
@@ -175,18 +179,24 @@ module _ (st : State) (h : Sound st) where
       (reacts AbortsOut (SUCCESS ∷ outTag (outOf st) ∷ [])) (h, (h, (h, tt)))
       (λ n.
       let halted = halted-sound st h in
-      record { port = halted .port; out = halted .out; inward = halted .inward; split = (got-fits _ (h .out), refl, none-owed (st .split) _ _ (h .split) (not-no _ (n .0))) })
+      record { port = halted .port; out = halted .out; inward = halted .inward; interrupt = h .interrupt; split = (got-fits _ (h .out), refl, none-owed (st .split) _ _ (h .split) (not-no _ (n .0))) })
 
   abort-in-sound : (tag : ℕ) → Leaves (initiateAbortIn st tag)
   unfolding Leaves initiateAbortIn effected
   abort-in-sound tag =
       decide-all Leaves (λ status. answering (status ∷ inTag (inOf st) ∷ [])) (abortRules (st .split) (isOpenIn (inOf st)) (inTag (inOf st)) tag)
       (reacts AbortsIn (SUCCESS ∷ inTag (inOf st) ∷ [])) (h, (h, (h, tt)))
-      (λ n. record { port = h .port; out = h .out; inward = owed-sound (inOf st) (inOf st .recent) (h .inward) (neb-ne _ _ (not-no _ (n .1 .0))); split = sent-fits _ _ (h .inward .phase) })
+      (λ n. record {
+        port = h .port;
+        out = h .out;
+        inward = owed-sound (inOf st) (inOf st .recent) (h .inward) (neb-ne _ _ (not-no _ (n .1 .0)));
+        interrupt = h .interrupt;
+        split = sent-fits _ _ (h .inward .phase);
+      })
 
   -- a split that ends owes no packet
   ended-sound : (inOf st .transfer .phase ≡ OWED → ⊥) → Sound (withSplit st None)
-  ended-sound e = record { port = h .port; out = h .out; inward = h .inward; split = e }
+  ended-sound e = record { port = h .port; out = h .out; inward = h .inward; interrupt = h .interrupt; split = e }
 
   check-out-sound : (s : Split) → st .split ≡ s → Leaves (checkAbortOut s)
   unfolding Leaves checkAbortOut effected
@@ -216,6 +226,7 @@ module _ (st : State) (h : Sound st) where
         port = h .port;
         out = inr (refl, record { halted = omega arith; ready = omega arith; end = refl; got = refl; held = omega arith; whole = λ e. absurd (omega arith); dropped = λ _ _. refl });
         inward = i;
+        interrupt = h .interrupt;
         split = record { halted = refl; held = refl; out-tag = refl; unsent = refl; in-tag = refl; phase = p };
       }
 
@@ -263,42 +274,54 @@ module _ (st : State) (h : Sound st) where
   -- ** the port
 
   with-port : (p : Port) → PortSound p → Sound (withPort st p)
-  with-port p e = record { port = e; out = h .out; inward = h .inward; split = h .split }
+  with-port p e = record { port = e; out = h .out; inward = h .inward; interrupt = h .interrupt; split = h .split }
 
   pub remote-sound : (r : Remote) → Sound (withRemote st r)
-  remote-sound r = record { port = h .port; out = h .out; inward = h .inward; split = h .split }
+  remote-sound r = record { port = h .port; out = h .out; inward = h .inward; interrupt = h .interrupt; split = h .split }
 
   ren-port : (ren : ℕ) → ren ≤ 1 → PortSound (withRen (portOf st) ren)
   ren-port ren e = record { size = h .port .size; configured = h .port .configured; ren = e }
 
   pub local-sound : Sound (localNow st)
   unfolding localNow
-  local-sound = record { port = ren-port OFF (omega arith); out = h .out; inward = h .inward; split = h .split }
+  local-sound = record { port = ren-port OFF (omega arith); out = h .out; inward = h .inward; interrupt = h .interrupt; split = h .split }
 
-  pub status-sound : (status : ℕ) → Sound (withPort st (withStatus (portOf st) status))
-  status-sound status = with-port _ (record { size = h .port .size; configured = h .port .configured; ren = h .port .ren })
+  -- ** Interrupt-IN
+
+  pub with-interrupt : (i : InterruptIn) → InterruptSound i → Sound (withInterrupt st i)
+  with-interrupt i e = record { port = h .port; out = h .out; inward = h .inward; interrupt = e; split = h .split }
+
+  read-status-sound : (tag : ℕ) → (2 ≤ tag) × (tag ≤ 127) → Leaves (readStatus (interruptOf st) tag)
+  unfolding Leaves readStatus effected
+  read-status-sound tag t =
+      pick-all Leaves (isWaiting (interruptOf st)) _ _ (λ _. h) (λ e. with-interrupt _ (queued-interrupt (interruptOf st) (h .interrupt) tag (t .0) (t .1) e))
+
+  halted-interrupt-sound : (halted : ℕ) → halted ≤ 1 → Sound (withInterrupt st (withInterruptHalted (interruptOf st) halted))
+  halted-interrupt-sound halted e = with-interrupt _ (halted-interrupt (interruptOf st) (h .interrupt) halted e)
 
   -- ** the rows
 
-  pub row-sound : (row : Row) → Sound (effected st (answerRow st row .effect))
+  pub row-sound : (row : Row) → Tagged row → Sound (effected st (answerRow st row .effect))
   unfolding answerRow Leaves effected
-  row-sound (InitiateAbortBulkOut tag) = abort-out-sound tag
-  row-sound CheckAbortBulkOutStatus = check-out-sound (st .split) refl
-  row-sound (InitiateAbortBulkIn tag) = abort-in-sound tag
-  row-sound CheckAbortBulkInStatus = check-in-sound (st .split)
-  row-sound InitiateClear = initiate-sound
-  row-sound CheckClearStatus = check-clear-sound
-  row-sound GetCapabilities = h
-  row-sound IndicatorPulse = h
-  row-sound (ReadStatusByte tag) = h
-  row-sound (RenControl ren) = pick-all Sound (on ren) _ _ (λ _. with-port _ (ren-port ON (omega arith))) (λ _. local-sound)
-  row-sound GoToLocal = remote-sound _
-  row-sound LocalLockout = remote-sound _
-  row-sound (ClearFeature Out) = feature-out-sound
-  row-sound (ClearFeature In) = feature-in-sound
-  row-sound (SetFeature Out) = halted-sound st h
-  row-sound (SetFeature In) = halted-in-sound ON (omega arith)
-  row-sound (GetStatus endpoint) = h
+  row-sound (InitiateAbortBulkOut tag) t = abort-out-sound tag
+  row-sound CheckAbortBulkOutStatus t = check-out-sound (st .split) refl
+  row-sound (InitiateAbortBulkIn tag) t = abort-in-sound tag
+  row-sound CheckAbortBulkInStatus t = check-in-sound (st .split)
+  row-sound InitiateClear t = initiate-sound
+  row-sound CheckClearStatus t = check-clear-sound
+  row-sound GetCapabilities t = h
+  row-sound IndicatorPulse t = h
+  row-sound (ReadStatusByte tag) t = read-status-sound tag t
+  row-sound (RenControl ren) t = pick-all Sound (on ren) _ _ (λ _. with-port _ (ren-port ON (omega arith))) (λ _. local-sound)
+  row-sound GoToLocal t = remote-sound _
+  row-sound LocalLockout t = remote-sound _
+  row-sound (ClearFeature Out) t = feature-out-sound
+  row-sound (ClearFeature In) t = feature-in-sound
+  row-sound (ClearFeature Interrupt) t = halted-interrupt-sound OFF (omega arith)
+  row-sound (SetFeature Out) t = halted-sound st h
+  row-sound (SetFeature In) t = halted-in-sound ON (omega arith)
+  row-sound (SetFeature Interrupt) t = halted-interrupt-sound ON (omega arith)
+  row-sound (GetStatus endpoint) t = h
 
   -- ** the thermostat's calls
 
@@ -310,6 +333,7 @@ module _ (st : State) (h : Sound st) where
         (λ w. let o = w .1 in inr (w .0, record { halted = o .halted; ready = omega arith; end = o .end; got = o .got; held = omega arith; whole = λ e. absurd (omega arith); dropped = λ _ _. refl }))
         (h .out);
     inward = h .inward;
+    interrupt = h .interrupt;
     split = split (st .split) (h .split);
   }
     where

@@ -2,13 +2,13 @@
 -- Assumes nothing.
 use Prim.Native.Nat.{ℕ, _+_, _-_, _≤_, _<_, min}
 use mathlib.Core.Path.{_≡_, refl}
-use mathlib.Core.Bool.{Bool, true, false}
+use mathlib.Core.Bool.{Bool, true, false, false≢true}
 use mathlib.Core.List.{List}
 use mathlib.Core.Logic.{_⊎_, inl, inr, ⊎-elim}
 use native.Mathlib.Omega.{arith}
 use lib.ListN.{length}
 use borrow.Author.Tests.{eqb-true, eqb-false, ltb-true, ltb-false, lt-ltb}
-use Rattle.rules.specs.Choice.{_=ᵇ_, _<ᵇ_}
+use Rattle.rules.specs.Choice.{_=ᵇ_, _≠ᵇ_, _<ᵇ_, no}
 use Rattle.rules.proofs.Choice.{pick-all, none-right, not-both, either}
 use Rattle.wire.specs.Header.{HEADER, aligned, ON}
 use Rattle.wire.specs.declared.types.Header.{Header}
@@ -33,11 +33,12 @@ cases false = inr refl
 -- ** power-on
 
 pub fresh-sound : (setting : Setting) (configured : ℕ) → isSize (setting .packet) ≡ true → configured ≤ 1 → Sound (fresh setting configured)
-unfolding fresh
+unfolding fresh no _≠ᵇ_
 fresh-sound setting configured size c = record {
   port = record { size = size; configured = c; ren = omega arith };
   out = inr (refl, record { halted = omega arith; ready = omega arith; end = refl; got = refl; held = omega arith; whole = λ e. absurd (omega arith); dropped = λ e. absurd (omega arith) });
   inward = record { halted = omega arith; reply = omega arith; phase = is-closed refl refl (record { asked = refl; enabled = refl; term = refl; left = refl; sent = refl }) };
+  interrupt = record { halted = omega arith; waiting = λ e. absurd (false≢true e); silent = λ _. (refl, refl) };
   split = λ e. absurd (omega arith);
 }
 
@@ -72,6 +73,7 @@ module _ (st : State) (h : Sound st) where
           (λ _. record { halted = bound; ready = omega arith; end = refl; got = refl; held = omega arith; whole = λ e. absurd (omega arith); dropped = λ _ _. refl }),
     );
     inward = h .inward;
+    interrupt = h .interrupt;
     split = split (st .split) (h .split) keeps;
   }
     where
@@ -130,6 +132,7 @@ module _ (st : State) (s : List ℕ) where
             (λ w. absurd (c .is-open (w .0)))
             (h .out);
         inward = h .inward;
+        interrupt = h .interrupt;
         split = running-split (st .split) _ _ _ _ (h .split) (running (c .passed)) (λ e. e);
       }
 
@@ -162,6 +165,7 @@ module _ (st : State) (s : List ℕ) where
         out = absorbed-sound (opened (outOf st) tag size end) (min size (length s - HEADER)) (let b = r .halted in let n = running (c .passed) in ⊎-elim (λ e. absurd (n e)) (λ e. e) (flag (outOf st .halted) b)) (law .2) (law .0) room (omega arith) (omega arith)
             (λ e. law .1 (⊎-elim (λ l. let f : HEADER < length s = part-full size (c .none .1 .1 .0) (h .port .size) (ltb-true _ _ l) in absurd (omega arith)) (λ l. let b : size ≤ length s - HEADER = ltb-false _ _ l in omega arith) (cases (length s - HEADER <ᵇ size))));
         inward = h .inward;
+        interrupt = h .interrupt;
         split = running-split (st .split) _ _ _ _ (h .split) (running (c .passed)) (λ e. e);
       }
     where
@@ -177,6 +181,7 @@ module _ (st : State) (s : List ℕ) where
           reply = h .inward .reply;
           phase = is-asked refl (record { tag = law .0; some = λ e. law .1 (omega arith); most = omega arith; enabled = law .2; term = law .3; left = refl; sent = refl });
         };
+        interrupt = h .interrupt;
         split = running-split (st .split) _ _ _ _ (h .split) (running (c .passed)) (λ e. absurd (omega arith));
       }
   accept-sound h (Trigger tag) c =
@@ -184,5 +189,6 @@ module _ (st : State) (s : List ℕ) where
         port = h .port;
         out = tagged-sound tag (c .between) (h .out);
         inward = h .inward;
+        interrupt = h .interrupt;
         split = running-split (st .split) _ _ _ _ (h .split) (running (c .passed)) (λ e. e);
       }

@@ -3,6 +3,7 @@ pub mod Soundness
 pub mod Ways
 pub mod KeepsOut
 pub mod KeepsIn
+pub mod KeepsInterrupt
 pub mod Calls
 pub mod Opened
 pub mod Rows
@@ -19,3 +20,4 @@ pub mod Transfers
 pub mod Sending
 pub mod Readers
 pub mod Replies
+pub mod Service

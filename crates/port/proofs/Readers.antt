@@ -17,7 +17,7 @@ use Rattle.wire.specs.When.{at, twoAt, fourAt, Commands, Requests, Column, rows
 use Rattle.wire.specs.declared.types.Header.the-variants.{Request}
 use Rattle.wire.specs.declared.types.Read.{Read}
 use Rattle.wire.specs.declared.types.Read.the-variants.{Good, Fault}
-use Rattle.wire.specs.declared.types.Endpoint.the-variants.{Out, In}
+use Rattle.wire.specs.declared.types.Endpoint.the-variants.{Out, In, Interrupt}
 use Rattle.wire.specs.declared.types.Row.{Row}
 use Rattle.wire.specs.declared.types.Row.the-variants.{InitiateAbortBulkOut, CheckAbortBulkOutStatus, InitiateAbortBulkIn, CheckAbortBulkInStatus, InitiateClear, CheckClearStatus, GetCapabilities}
 use Rattle.wire.specs.declared.types.Row.the-variants.{IndicatorPulse, ReadStatusByte, RenControl, GoToLocal, LocalLockout, ClearFeature, SetFeature, GetStatus}
@@ -53,8 +53,10 @@ byRow r GoToLocal a = r
 byRow r LocalLockout a = r
 byRow r (ClearFeature Out) a = cut-off r
 byRow r (ClearFeature In) a = closedBy r (r .line)
+byRow r (ClearFeature Interrupt) a = r
 byRow r (SetFeature Out) a = cut-off r
 byRow r (SetFeature In) a = r
+byRow r (SetFeature Interrupt) a = r
 byRow r (GetStatus endpoint) a = r
 
 abbrev pub bySetup : Reader → Setup → Answer → Reader
@@ -95,7 +97,8 @@ all-told r a =
     (omega arith, λ _. refl) ▹ (omega arith, λ _. refl) ▹ (omega arith, λ _. refl) ▹ (omega arith, λ _. refl) ▹
     (omega arith, λ _. refl) ▹ (omega arith, λ _. refl) ▹ (omega arith, λ _. refl) ▹ (omega arith, λ _. refl) ▹
     (omega arith, λ _. refl) ▹ (omega arith, λ _. refl) ▹ (omega arith, λ _. refl) ▹ (omega arith, λ _. refl) ▹
-    (omega arith, λ _. refl) ▹ (omega arith, λ _. refl) ▹ (omega arith, λ _. refl) ▹ tt
+    (omega arith, λ _. refl) ▹ (omega arith, λ _. refl) ▹ (omega arith, λ _. refl) ▹ (omega arith, λ _. refl) ▹
+    (omega arith, λ _. refl) ▹ (omega arith, λ _. refl) ▹ tt
 
 pub setup-told : (r : Reader) (s : List ℕ) (a : Answer) (x : Setup) → a .verdict .number ≡ 0 → Matches s rows x → afterSetup r s a ≡ bySetup r x a
 unfolding afterSetup

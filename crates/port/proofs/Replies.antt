@@ -18,25 +18,26 @@ use Rattle.wire.specs.Header.{HEADER, OFF, inHeader}
 use Rattle.wire.specs.Setup.{readSetup}
 use Rattle.wire.specs.When.{at, Commands, Requests, rows, Matches}
 use Rattle.wire.specs.declared.types.Header.the-variants.{Message, Request, Trigger}
-use Rattle.wire.specs.declared.types.Endpoint.the-variants.{Out, In}
+use Rattle.wire.specs.declared.types.Endpoint.the-variants.{Out, In, Interrupt}
 use Rattle.wire.specs.declared.types.Row.{Row}
 use Rattle.wire.specs.declared.types.Row.the-variants.{InitiateAbortBulkOut, CheckAbortBulkOutStatus, InitiateAbortBulkIn, CheckAbortBulkInStatus, InitiateClear, CheckClearStatus, GetCapabilities}
 use Rattle.wire.specs.declared.types.Row.the-variants.{IndicatorPulse, ReadStatusByte, RenControl, GoToLocal, LocalLockout, ClearFeature, SetFeature, GetStatus}
 use Rattle.wire.specs.declared.types.Setup.{Setup}
 use Rattle.wire.specs.declared.types.Setup.the-variants.{Configure, Asks, NoRow}
 use Rattle.wire.proofs.When.{setup-law}
-use Rattle.port.specs.Parts.{STORE, isSize, CLOSED, ASKED, SENDING, OWED, on, isOpenOut, isOpenIn, isOwed, isClear, hasReply, outOf, inOf, packetSize, isConfigured, closedIn, owedIn, fresh}
+use Rattle.port.specs.Parts.{STORE, isSize, CLOSED, ASKED, SENDING, OWED, on, isOpenOut, isOpenIn, isOwed, isClear, hasReply, outOf, inOf, interruptOf, packetSize, isConfigured, closedIn, owedIn, fresh}
 use Rattle.port.specs.Parts.{emptyIn, withInHalted, broken, shut}
 use Rattle.port.specs.Remote.{localNow}
 use Rattle.port.specs.Answer.{Said, number, refuse}
 use Rattle.port.specs.In.{Packet, sendable, marks, gone, fixed, header, started, toGo, send, nextPacket, inRules, sends, poll}
-use Rattle.port.specs.Rows.{Reaction, answering, abortRules, outTag, inTag, initiateAbortOut, initiateAbortIn, checkAbortOut, checkAbortIn, initiateClear, checkClear, answerRow, clearing}
+use Rattle.port.specs.Interrupt.{isWaiting, interruptRules, interruptPoll}
+use Rattle.port.specs.Rows.{Reaction, answering, abortRules, outTag, inTag, initiateAbortOut, initiateAbortIn, checkAbortOut, checkAbortIn, initiateClear, checkClear, readStatus, answerRow, clearing}
 use Rattle.port.specs.Rows.{clearFeatureOut, clearFeatureIn, effected}
 use Rattle.port.specs.Device.{Device, Result, isSound, withState, unsentIn, unsentOf, made, powerOn}
 use Rattle.port.specs.Out.{plain, opened, outcome, accepted, planned, outPlan}
 use Rattle.port.specs.Calls.{takeRules, released, taking, take-message, thermostatRules, statusSet, setStatus, returned, panel, busReset, suspend}
-use Rattle.port.specs.Calls.{refused, carriedOut, bulkOut, said, offerRules, offered, offerPlan, withReply, offer, setupRules, asked as asks-for, setupOutcome, answered, setup, bulkIn}
-use Rattle.port.specs.Step.{in-poll, offer-reply, set-status, front-panel, bus-suspend, SetupPacket, Call, setup-packet, out-packet, take-into, bus-reset, quiet, quietly, soundly, step}
+use Rattle.port.specs.Calls.{refused, carriedOut, bulkOut, said, offerRules, offered, offerPlan, withReply, offer, setupRules, asked as asks-for, setupOutcome, answered, setup, bulkIn, interruptIn}
+use Rattle.port.specs.Step.{in-poll, interrupt-poll, offer-reply, set-status, front-panel, bus-suspend, SetupPacket, Call, setup-packet, out-packet, take-into, bus-reset, quiet, quietly, soundly, step}
 use Rattle.port.specs.Trace.{trace}
 use Rattle.port.specs.Laws.{Stored}
 use Rattle.port.specs.Reply.{Asked, portion, inTransfer, inPackets, InLine, shut as closed, owing, asked, sending, Reader, unread, dueAfter, requestsNow, afterPacket, remaining, tail, afterPoll}
@@ -170,7 +171,7 @@ module _ (u : Device) (r : Reader) (stored : Stored u) (h : Sound (u .state)) (a
   breaks = record { size = refl; due = refl; unsent = agreed .unsent; line = agreed .line }
 
   row-goes : (row : Row) → RowGoes row (answerRow st row)
-  unfolding answerRow initiateAbortOut initiateAbortIn checkAbortOut checkAbortIn initiateClear checkClear effected localNow clearing clearFeatureOut broken pick
+  unfolding answerRow initiateAbortOut initiateAbortIn checkAbortOut checkAbortIn initiateClear checkClear readStatus effected localNow clearing clearFeatureOut broken pick
   row-goes (InitiateAbortBulkOut tag) =
       decide-all (RowGoes (InitiateAbortBulkOut tag)) (λ status. answering (status ∷ outTag (outOf st) ∷ [])) (abortRules (st .split) (isOpenOut (outOf st)) (outTag (outOf st)) tag) _
       (agreed, (agreed, (agreed, tt))) (λ _. breaks)
@@ -201,7 +202,7 @@ module _ (u : Device) (r : Reader) (stored : Stored u) (h : Sound (u .state)) (a
       (λ _. pick-all (RowGoes CheckClearStatus) (isOwed b) _ _ (λ _. agreed) (λ _. agreed))
   row-goes GetCapabilities = agreed
   row-goes IndicatorPulse = agreed
-  row-goes (ReadStatusByte tag) = agreed
+  row-goes (ReadStatusByte tag) = pick-all (RowGoes (ReadStatusByte tag)) (isWaiting (interruptOf st)) _ _ (λ _. agreed) (λ _. agreed)
   row-goes (RenControl ren) =
       pick-all (λ (s : State). Agreed P (seen (withState u s)) r) (on ren) _ _ (λ _. agreed)
       (λ _. agreed)
@@ -209,8 +210,10 @@ module _ (u : Device) (r : Reader) (stored : Stored u) (h : Sound (u .state)) (a
   row-goes LocalLockout = agreed
   row-goes (ClearFeature Out) = breaks
   row-goes (ClearFeature In) = feature-in
+  row-goes (ClearFeature Interrupt) = agreed
   row-goes (SetFeature Out) = breaks
   row-goes (SetFeature In) = agreed
+  row-goes (SetFeature Interrupt) = agreed
   row-goes (GetStatus endpoint) = agreed
 
   module _ (p : SetupPacket) where
@@ -450,12 +453,13 @@ module _ (u : Device) (r : Reader) (stored : Stored u) (h : Sound (u .state)) (a
   Kept x = Agreed P (seen (said u x .unit)) r
 
   goes : (c : Call) → Goes c (soundly u c)
-  unfolding soundly quietly take-message taking released busReset made fresh setStatus statusSet panel returned suspend localNow
+  unfolding soundly quietly interruptIn interruptPoll take-message taking released busReset made fresh setStatus statusSet panel returned suspend localNow
   goes (setup-packet p) = setup-goes p
   goes (out-packet s) = out-goes s
   goes (take-into room) = record { expects = tt; agrees = decide-all Kept (refuse st) (takeRules st room) _ (agreed, (agreed, (agreed, tt))) (λ _. agreed) }
   goes bus-reset = record { expects = tt; agrees = subst (Agreed P _) (sym (at-true _ _ _ refl)) (record { size = refl; due = refl; unsent = refl; line = refl }) }
   goes (quiet (in-poll room)) = poll-goes room
+  goes (quiet (interrupt-poll room)) = record { expects = tt; agrees = decide-all Kept (refuse st) (interruptRules st room) _ (agreed, (agreed, (agreed, (agreed, tt)))) (λ _. agreed) }
   goes (quiet (offer-reply bytes)) = offer-goes bytes
   goes (quiet (set-status status)) = record { expects = tt; agrees = decide-all Kept (refuse st) (thermostatRules st) _ (agreed, tt) (λ _. agreed) }
   goes (quiet front-panel) = record { expects = tt; agrees = decide-all Kept (refuse st) (thermostatRules st) _ (agreed, tt) (λ _. agreed) }

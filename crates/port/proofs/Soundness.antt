@@ -1,7 +1,7 @@
 -- Soundness as facts, for proofs: each test of `sound` with its meaning, and the way back from the facts to the test.
 -- Assumes nothing.
 use Prim.Native.Nat.{ℕ, _+_, _-_, _≤_}
-use mathlib.Core.Path.{_≡_, refl, _∙_}
+use mathlib.Core.Path.{_≡_, refl, sym, _∙_}
 use mathlib.Core.Bool.{Bool, true, false, false≢true}
 use mathlib.Core.List.{List, []}
 use mathlib.Core.Logic.{_⊎_, inl, inr, ⊎-elim}
@@ -10,13 +10,15 @@ use borrow.Author.Tests.{le-leb, leb-true, eq-eqb, ne-eqb, eqb-true, eqb-false}
 use Rattle.rules.specs.Choice.{_=ᵇ_, _≠ᵇ_, _≤ᵇ_, no, _or_, _and_, pick, _⇒_∣_, first, _&_, all, implies}
 use Rattle.rules.proofs.Choice.{all-of, of-all, at-true, at-false, pick-all, neb-ne, neb-eq, ne-neb, eq-neb, or-left, or-right, no-true, is-no, and-both, both-left, both-right, either}
 use Rattle.wire.specs.Header.{OFF}
-use Rattle.port.specs.Parts.{STORE, isSize, CLOSED, ASKED, SENDING, OWED, on, isOpenOut, isOwed, portOf, outOf, inOf}
-use Rattle.port.specs.Sound.{isFlag, portSound, openSound, heldSound, restingSound, outSound, unasked, unsending, idle, askedSound, sendingSound, phaseSound, inSound, clearSound, notOwed, abortOutSound, splitSound, sound}
+use Rattle.port.specs.Parts.{STORE, isSize, CLOSED, ASKED, SENDING, OWED, on, isOpenOut, isOwed, portOf, outOf, inOf, interruptOf}
+use Rattle.port.specs.Interrupt.{asksService, isWaiting}
+use Rattle.port.specs.Sound.{isFlag, portSound, openSound, heldSound, restingSound, outSound, unasked, unsending, idle, askedSound, sendingSound, phaseSound, inSound, packetSound, waitingSound, silentSound, interruptSound, clearSound, notOwed, abortOutSound, splitSound, sound}
 use Rattle.port.specs.declared.types.Port.{Port}
 use Rattle.port.specs.declared.types.OutMessage.{OutMessage}
 use Rattle.port.specs.declared.types.BulkOut.{BulkOut}
 use Rattle.port.specs.declared.types.InTransfer.{InTransfer}
 use Rattle.port.specs.declared.types.BulkIn.{BulkIn}
+use Rattle.port.specs.declared.types.InterruptIn.{InterruptIn}
 use Rattle.port.specs.declared.types.Split.{Split}
 use Rattle.port.specs.declared.types.Split.the-variants.{None, AbortOut, AbortIn, Clear}
 use Rattle.port.specs.declared.types.State.{State}
@@ -359,6 +361,33 @@ in-to b h =
     of-all (in-tests b)
     (le-leb _ _ (h .halted), (le-leb (b .reply .at) STORE (let r = h .reply in omega arith), (le-leb (b .reply .unsent) (STORE - b .reply .at) (let r = h .reply in omega arith), (phase-to _ _ (h .phase), tt))))
 
+-- ** Interrupt-IN
+
+pub record InterruptSound (i : InterruptIn) : Type 0 where
+  pub halted : i .halted ≤ 1
+  pub waiting : isWaiting i ≡ true → packetSound (i .waiting) ≡ true
+  pub silent : isWaiting i ≡ false → (i .waiting .notify2 ≡ 0) × (asksService (i .status) ≡ false)
+
+abbrev waiting-tests : InterruptIn → List Bool
+waiting-tests i = isFlag (i .halted) & packetSound (i .waiting) & []
+
+abbrev silent-tests : InterruptIn → List Bool
+silent-tests i = isFlag (i .halted) & i .waiting .notify2 =ᵇ 0 & no (asksService (i .status)) & []
+
+interrupt-of : (i : InterruptIn) → interruptSound i ≡ true → InterruptSound i
+unfolding interruptSound waitingSound silentSound
+interrupt-of i =
+    pick-all (λ (b : Bool). b ≡ true → InterruptSound i) (isWaiting i) _ _
+    (λ w e. let h = all-of (waiting-tests i) e in record { halted = leb-true _ _ (h .0); waiting = λ _. h .1 .0; silent = λ f. absurd (false≢true (sym f ∙ w)) })
+    (λ w e. let h = all-of (silent-tests i) e in record { halted = leb-true _ _ (h .0); waiting = λ f. absurd (false≢true (sym w ∙ f)); silent = λ _. (eqb-true _ _ (h .1 .0), is-no _ (h .1 .1 .0)) })
+
+interrupt-to : (i : InterruptIn) → InterruptSound i → interruptSound i ≡ true
+unfolding interruptSound waitingSound silentSound
+interrupt-to i h =
+    pick-all (λ (b : Bool). b ≡ true) (isWaiting i) _ _
+    (λ w. of-all (waiting-tests i) (le-leb _ _ (h .halted), (h .waiting w, tt)))
+    (λ w. of-all (silent-tests i) (le-leb _ _ (h .halted), (eq-eqb _ _ (h .silent w .0), (no-true _ (h .silent w .1), tt))))
+
 -- ** the split
 
 pub record ClearSound (o : BulkOut) (b : BulkIn) : Type 0 where
@@ -434,17 +463,18 @@ pub record Sound (st : State) : Type 0 where
   pub port : PortSound (portOf st)
   pub out : OutSound (outOf st)
   pub inward : InSound (inOf st)
+  pub interrupt : InterruptSound (interruptOf st)
   pub split : SplitSound (st .split) (outOf st) (inOf st)
 
 abbrev tests : State → List Bool
-tests st = portSound (portOf st) & outSound (outOf st) & inSound (inOf st) & splitSound (st .split) (outOf st) (inOf st) & []
+tests st = portSound (portOf st) & outSound (outOf st) & inSound (inOf st) & interruptSound (interruptOf st) & splitSound (st .split) (outOf st) (inOf st) & []
 
 pub sound-of : (st : State) → sound st ≡ true → Sound st
 unfolding sound
 sound-of st e =
     let h = all-of (tests st) e in
-    record { port = port-of _ (h .0); out = out-of _ (h .1 .0); inward = in-of _ (h .1 .1 .0); split = split-of (st .split) _ _ (h .1 .1 .1 .0) }
+    record { port = port-of _ (h .0); out = out-of _ (h .1 .0); inward = in-of _ (h .1 .1 .0); interrupt = interrupt-of _ (h .1 .1 .1 .0); split = split-of (st .split) _ _ (h .1 .1 .1 .1 .0) }
 
 pub sound-to : (st : State) → Sound st → sound st ≡ true
 unfolding sound
-sound-to st h = of-all (tests st) (port-to _ (h .port), (out-to _ (h .out), (in-to _ (h .inward), (split-to (st .split) _ _ (h .split), tt))))
+sound-to st h = of-all (tests st) (port-to _ (h .port), (out-to _ (h .out), (in-to _ (h .inward), (interrupt-to _ (h .interrupt), (split-to (st .split) _ _ (h .split), tt)))))

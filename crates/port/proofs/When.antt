@@ -30,10 +30,11 @@ use Rattle.wire.proofs.When.{all-zeros, header-when, isRow, Right, matched, unm
 use Rattle.port.specs.Parts.{STORE, isSize, isOpenOut, unfinished, hasReply, isClear, portOf, outOf, inOf, packetSize, isConfigured}
 use Rattle.port.specs.Out.{wrongLength, fitRules, more, headerSays, outcome, planned, accepted, outPlan}
 use Rattle.port.specs.In.{poll}
+use Rattle.port.specs.Interrupt.{interruptPoll}
 use Rattle.port.specs.Device.{Device, Result, isSound, powerOn}
-use Rattle.port.specs.Calls.{said, carriedOut, bulkOut, bulkIn, asked, setupOutcome, answered, setup}
+use Rattle.port.specs.Calls.{said, carriedOut, bulkOut, bulkIn, interruptIn, asked, setupOutcome, answered, setup}
 use Rattle.port.specs.Calls.{taking, take-message, offerPlan, withReply, offer, statusSet, setStatus, returned, panel, busReset, suspend}
-use Rattle.port.specs.Step.{in-poll, offer-reply, set-status, front-panel, bus-suspend, Call, setup-packet, out-packet, take-into, bus-reset, quiet, quietly, soundly, step}
+use Rattle.port.specs.Step.{in-poll, interrupt-poll, offer-reply, set-status, front-panel, bus-suspend, Call, setup-packet, out-packet, take-into, bus-reset, quiet, quietly, soundly, step}
 use Rattle.port.specs.When.{Unsound, Unconfigured, MessageUnfinished, OutOpen, ReplyStored, OutOfTurn, TooLong, HeaderWrongLength, Misaligned, ofMore, ofHeader, ofPacket}
 use Rattle.port.specs.When.{Configures, Served, given, givenPower, RuleForEvery, PowerRule}
 use Rattle.port.specs.declared.types.Split.{Split}
@@ -190,7 +191,7 @@ module _ (u : Device) (s : List ℕ) (h : Sound (u .state)) where
   asked-when x (unmatched e k) = subst (λ (y : Setup). By setupNumber (λ _. unserved) (asked (u .state) y)) (sym e) (record { told = inl (refl, λ served. k _ (served .matches)) })
 
 by-rules : (u : Device) (c : Call) → By number (λ _. given u c) (step u c)
-unfolding soundly quietly setup setupOutcome answered bulkOut outPlan outcome planned take-message taking bulkIn poll offer offerPlan setStatus statusSet panel returned busReset suspend
+unfolding soundly quietly setup setupOutcome answered bulkOut outPlan outcome planned take-message taking bulkIn poll interruptIn interruptPoll offer offerPlan setStatus statusSet panel returned busReset suspend
 by-rules u (setup-packet p) =
     asked-first u (setup-packet p)
     (λ h. through (answered u)
@@ -216,6 +217,13 @@ by-rules u (quiet (in-poll room)) =
     (λ _. line _ (is-less room _) refl
     (λ _. line _ (equals _ 1) refl
     (λ _. line _ (both-of (negated (equals _ 3)) (one-of (negated (differs _ 0)) (negated (reply-stored u)))) refl (λ _. record { told = refl }))))))
+by-rules u (quiet (interrupt-poll room)) =
+    asked-first u (quiet (interrupt-poll room))
+    (λ h. through (said u)
+    (line _ (unconfigured u h) refl
+    (λ _. line _ (is-less room 2) refl
+    (λ _. line _ (equals _ 1) refl
+    (λ _. line _ (negated (differs _ 0)) refl (λ _. record { told = refl }))))))
 by-rules u (quiet (offer-reply bytes)) =
     asked-first u (quiet (offer-reply bytes))
     (λ h. through (withReply u bytes)

@@ -8,7 +8,7 @@ use Rattle.rules.specs.Answers.{DONE, SUCCESS, Leaves, as-ruled, unchanged, out
 use Rattle.wire.specs.Bytes.{byte}
 use Rattle.wire.specs.Setup.{readSetup}
 use Rattle.wire.specs.declared.types.Endpoint.{Endpoint}
-use Rattle.wire.specs.declared.types.Endpoint.the-variants.{Out, In}
+use Rattle.wire.specs.declared.types.Endpoint.the-variants.{Out, In, Interrupt}
 use Rattle.wire.specs.declared.types.Row.{Row}
 use Rattle.wire.specs.declared.types.Row.the-variants.{InitiateAbortBulkOut, CheckAbortBulkOutStatus, InitiateAbortBulkIn, CheckAbortBulkInStatus, InitiateClear, CheckClearStatus, GetCapabilities, IndicatorPulse, ReadStatusByte, RenControl, GoToLocal, LocalLockout, ClearFeature, SetFeature, GetStatus}
 use Rattle.wire.specs.declared.types.Setup.{Setup}
@@ -19,6 +19,7 @@ use Rattle.port.specs.Step.{Call, setup-packet, out-packet, take-into, b
 abbrev pub isOut : Endpoint → Bool
 isOut Out = true
 isOut In = false
+isOut Interrupt = false
 
 -- a fault of a packet halts; "An OUT abort halts Bulk-OUT", and so does a clear, where they are answered 01
 abbrev pub halting : Leaves → Bool

@@ -1,5 +1,5 @@
--- The nine calls of 01, "The unit", each from a sound unit and its input to all that comes back. That a unit is sound is asked once, before every
--- call (Step), so that the lists here begin behind 1.
+-- The nine calls of 01, "The unit", and the poll of 02's request 1, each from a sound unit and its input to all that comes back. That a unit is sound
+-- is asked once, before every call (Step), so that the lists here begin behind 1.
 -- Assumes nothing.
 use Prim.Native.Nat.{ℕ}
 use mathlib.Core.Bool.{Bool}
@@ -12,11 +12,12 @@ use Rattle.wire.specs.Header.{OFF}
 use Rattle.wire.specs.Setup.{SETUP, CONTROL, readSetup}
 use Rattle.wire.specs.declared.types.Setup.{Setup}
 use Rattle.wire.specs.declared.types.Setup.the-variants.{Configure, Asks, NoRow}
-use Rattle.port.specs.Parts.{STORE, on, hasReply, isClear, portOf, outOf, inOf, isConfigured, noMessage, withPort, withOut, withIn, withRemote, withStatus, holding, carrying}
+use Rattle.port.specs.Parts.{STORE, on, hasReply, isClear, portOf, outOf, inOf, interruptOf, isConfigured, noMessage, withOut, withIn, withInterrupt, withRemote, holding, carrying}
 use Rattle.port.specs.Remote.{byPanel, localNow}
 use Rattle.port.specs.Answer.{Said, number, says, refuse}
 use Rattle.port.specs.Out.{plain, outPlan}
 use Rattle.port.specs.In.{poll}
+use Rattle.port.specs.Interrupt.{statusHeld, interruptPoll}
 use Rattle.port.specs.Rows.{answerRow, reacted}
 use Rattle.port.specs.declared.types.BulkOut.{BulkOut}
 use Rattle.port.specs.declared.types.BulkIn.{BulkIn}
@@ -53,6 +54,11 @@ bulkOut u s = carriedOut u s (outPlan (u .state) s)
 
 unfoldable pub bulkIn : Device → ℕ → Result
 bulkIn u room = said u (poll (u .state) (unsentOf u) room)
+
+-- ** Interrupt-IN poll
+
+unfoldable pub interruptIn : Device → ℕ → Result
+interruptIn u room = said u (interruptPoll (u .state) room)
 
 -- ** setup packet: "Setup: 1, 3, 15"
 
@@ -127,7 +133,7 @@ abbrev pub thermostatRules : State → List (Bool × ℕ)
 thermostatRules st = no (isConfigured st) ⇒ UNCONFIGURED ∣ []
 
 unfoldable pub statusSet : State → ℕ → Said
-statusSet st status = decide (refuse st) (thermostatRules st) (says (withPort st (withStatus (portOf st) status)) [])
+statusSet st status = decide (refuse st) (thermostatRules st) (says (withInterrupt st (statusHeld (interruptOf st) status)) [])
 
 unfoldable pub setStatus : Device → ℕ → Result
 setStatus u status = said u (statusSet (u .state) status)

@@ -7,16 +7,17 @@ use mathlib.Core.List.{List, [], _∷_}
 use mathlib.Core.Logic.{_⊎_}
 use Rattle.rules.specs.When.{Not, _when_∣_}
 use Rattle.wire.specs.When.{at, rows, Matches}
-use Rattle.wire.specs.declared.types.Endpoint.the-variants.{Out, In}
+use Rattle.wire.specs.declared.types.Endpoint.the-variants.{Out, In, Interrupt}
 use Rattle.wire.specs.declared.types.Row.{Row}
 use Rattle.wire.specs.declared.types.Row.the-variants.{InitiateAbortBulkOut, CheckAbortBulkOutStatus, InitiateAbortBulkIn, CheckAbortBulkInStatus, InitiateClear, CheckClearStatus}
 use Rattle.wire.specs.declared.types.Row.the-variants.{ClearFeature, SetFeature, GetStatus}
 use Rattle.wire.specs.declared.types.Setup.the-variants.{Asks}
 use Rattle.port.specs.Device.{Device}
 use Rattle.port.specs.Step.{SetupPacket, setup-packet, out-packet, bus-reset, Stepping}
-use Rattle.port.specs.When.{OutHalted, InHalted, MessageReady, OutOpen, InOpen, Owed}
+use Rattle.port.specs.When.{OutHalted, InHalted, InterruptHalted, MessageReady, OutOpen, InOpen, Owed}
 use Rattle.port.specs.declared.types.BulkOut.{BulkOut}
 use Rattle.port.specs.declared.types.BulkIn.{BulkIn}
+use Rattle.port.specs.declared.types.InterruptIn.{InterruptIn}
 use Rattle.port.specs.declared.types.Remote.the-variants.{Locs}
 use Rattle.port.specs.declared.types.Split.{Split}
 use Rattle.port.specs.declared.types.Split.the-variants.{None, AbortOut, AbortIn, Clear}
@@ -29,6 +30,9 @@ outSide u = u .state .small .bulkout
 abbrev inSide : Device → BulkIn
 inSide u = u .state .small .bulkin
 
+abbrev interruptSide : Device → InterruptIn
+interruptSide u = u .state .small .interrupt
+
 -- "the unfinished message, but not a ready one": a ready message stays, byte by byte; of another nothing is held; and no transfer is open
 pub record Dropped (u v : Device) : Type 0 where
   pub closed : Not (OutOpen v)
@@ -39,7 +43,8 @@ pub record Dropped (u v : Device) : Type 0 where
 abbrev pub Halted : Device → Device → Type 0
 Halted u v = OutHalted v × Dropped u v
 
--- what a request of one side leaves of the other: its Bulk-IN side and the reply, or its Bulk-OUT side and the message; REN, the status byte and the remote/local state
+-- what a request of one side leaves of the other: its Bulk-IN side and the reply, or its Bulk-OUT side and the message; REN and the remote/local state, and
+-- Interrupt-IN with the status byte, the packet that waits and its halt
 abbrev pub InStays : Device → Device → Type 0
 InStays u v = (inSide v ≡ inSide u) × (v .reply ≡ u .reply)
 
@@ -47,7 +52,7 @@ abbrev pub OutStays : Device → Device → Type 0
 OutStays u v = (outSide v ≡ outSide u) × (v .message ≡ u .message)
 
 abbrev pub PanelStays : Device → Device → Type 0
-PanelStays u v = (v .state .small .port ≡ u .state .small .port) × (v .state .remote ≡ u .state .remote)
+PanelStays u v = (v .state .small .port ≡ u .state .small .port) × (v .state .remote ≡ u .state .remote) × (interruptSide v ≡ interruptSide u)
 
 -- the split alone has changed
 abbrev pub SplitBecomes : Device → Split → Device → Type 0
@@ -186,6 +191,21 @@ pub record HaltsIn (u v : Device) (bytes : List ℕ) : Type 0 where
   pub out-stays : OutStays u v
   pub panel-stays : PanelStays u v
 
+-- 02, request 1: "feature (dropping no packet) .. rows take 0x83": the halt of Interrupt-IN alone
+pub record InterruptMoves (u v : Device) : Type 0 where
+  pub status-stays : interruptSide v .status ≡ interruptSide u .status
+  pub packet-stays : interruptSide v .waiting ≡ interruptSide u .waiting
+  pub split-stays : v .state .split ≡ u .state .split
+  pub port-stays : (v .state .small .port ≡ u .state .small .port) × (v .state .remote ≡ u .state .remote)
+  pub out-stays : OutStays u v
+  pub in-stays : InStays u v
+
+abbrev pub FreesInterrupt : Device → Device → List ℕ → Type 0
+FreesInterrupt u v bytes = Not (InterruptHalted v) × InterruptMoves u v
+
+abbrev pub HaltsInterrupt : Device → Device → List ℕ → Type 0
+HaltsInterrupt u v bytes = InterruptHalted v × InterruptMoves u v
+
 -- "2: 1 if halted else 0, then 0"
 abbrev pub TellsHalt : Type 0 → Device → Device → List ℕ → Type 0
 TellsHalt halted u v bytes = (halted → bytes ≡ 1 ∷ 0 ∷ []) × (Not halted → bytes ≡ 0 ∷ 0 ∷ []) × (v ≡ u)
@@ -200,14 +220,15 @@ pub record Faults (u v : Device) : Type 0 where
   pub in-stays : InStays u v
   pub panel-stays : PanelStays u v
 
--- "as at power-on": nothing is stored, open, halted or in progress, both most recent tags are 0, REN off, LOCS, status byte 0
+-- "as at power-on": nothing is stored, open, halted or in progress, both most recent tags are 0, REN off, LOCS, status byte 0; no packet waits
 pub record Cleared (v : Device) : Type 0 where
   pub message-goes : Not (MessageReady v) × (outSide v .message .held ≡ 0) × Not (OutOpen v)
   pub reply-goes : (inSide v .reply .unsent ≡ 0) × Not (InOpen v)
-  pub runs : Not (OutHalted v) × Not (InHalted v)
+  pub runs : Not (OutHalted v) × Not (InHalted v) × Not (InterruptHalted v)
   pub split : v .state .split ≡ None
   pub tags : (outSide v .recent ≡ 0) × (inSide v .recent ≡ 0)
-  pub panel : (v .state .small .port .ren ≡ 0) × (v .state .small .port .status ≡ 0) × (v .state .remote ≡ Locs)
+  pub panel : (v .state .small .port .ren ≡ 0) × (v .state .remote ≡ Locs)
+  pub interrupt : (interruptSide v .status ≡ 0) × (interruptSide v .waiting .notify1 ≡ 0)
 
 -- ** THE LAW
 
@@ -222,8 +243,11 @@ pub record SplitsAndHalts (does : Stepping) : Type 0 where
   pub frees-in : On does (ClearFeature In) FreesIn
   pub halts-out : On does (SetFeature Out) HaltsOut
   pub halts-in : On does (SetFeature In) HaltsIn
+  pub frees-interrupt : On does (ClearFeature Interrupt) FreesInterrupt
+  pub halts-interrupt : On does (SetFeature Interrupt) HaltsInterrupt
   pub tells-out : On does (GetStatus Out) (λ u. TellsHalt (OutHalted u) u)
   pub tells-in : On does (GetStatus In) (λ u. TellsHalt (InHalted u) u)
+  pub tells-interrupt : On does (GetStatus Interrupt) (λ u. TellsHalt (InterruptHalted u) u)
   pub faults : (u : Device) (s : List ℕ) → 5 < does u (out-packet s) .answer .verdict .number → Faults u (does u (out-packet s) .unit)
   pub configures : (u : Device) (p : SetupPacket) → at (p .packet) 0 ≡ 0 → does u (setup-packet p) .answer .verdict .number ≡ 0 → Cleared (does u (setup-packet p) .unit)
   pub resets : (u : Device) → does u bus-reset .answer .verdict .number ≡ 0 → Cleared (does u bus-reset .unit)

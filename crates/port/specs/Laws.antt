@@ -153,7 +153,7 @@ abbrev pub ClearReachedHalted : Stepping → Type 0
 ClearReachedHalted does = (u : Device) (control : ℕ) → Attends u control
     → ReachedByFeature does (does u (setup-of INITIATE-CLEAR control) .unit) control × (isClear (u .state .split) ≡ true → ReachedByFeature does u control)
 
--- ** "The four things that survive" a clear: none of its three calls moves them, on any unit, Bulk-IN halted or not
+-- ** "The four things that survive" a clear, and the three of 02's request 1: none of its three calls moves them, on any unit, Bulk-IN halted or not
 
 abbrev pub Survive : Stepping → Type 0
 Survive does = (u : Device) (control room : ℕ)

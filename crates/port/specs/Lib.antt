@@ -5,6 +5,7 @@ pub mod Sound
 pub mod Answer
 pub mod Out
 pub mod In
+pub mod Interrupt
 pub mod Given
 pub mod Rows
 pub mod Device
@@ -14,6 +15,7 @@ pub mod Trace
 pub mod When
 pub mod Reply
 pub mod Halts
+pub mod Service
 pub mod Live
 pub mod Survivors
 pub mod Breaks

@@ -3,9 +3,9 @@
 use Prim.Native.Nat.{ℕ}
 use mathlib.Core.List.{List, [], _∷_}
 use Rattle.rules.specs.Answers.{UNSOUND, UNCONFIGURED, WRONG-SIZE, HALTED, WAIT, NOT-IN-FOURS, SHORT-HEADER, BAD-TAG, UNKNOWN-MSGID, RESERVED, WRONG-LENGTH, TOO-LONG, OUT-OF-TURN, MISALIGNED, NO-ROW, NOT-NOW}
-use Rattle.port.specs.Step.{Quiet, in-poll, offer-reply, set-status, front-panel, bus-suspend, Call, setup-packet, out-packet, take-into, bus-reset, quiet}
+use Rattle.port.specs.Step.{Quiet, in-poll, interrupt-poll, offer-reply, set-status, front-panel, bus-suspend, Call, setup-packet, out-packet, take-into, bus-reset, quiet}
 
--- "Bulk calls: 1, 2, 3, 4, 5"
+-- "Bulk calls: 1, 2, 3, 4, 5"; 02, request 1: "polling 0x83 goes 1, 2, 3 .., 4 halted, 5 empty"
 abbrev pub bulk : List ℕ → List ℕ
 bulk more = UNSOUND ∷ UNCONFIGURED ∷ WRONG-SIZE ∷ HALTED ∷ WAIT ∷ more
 
@@ -13,12 +13,13 @@ bulk more = UNSOUND ∷ UNCONFIGURED ∷ WRONG-SIZE ∷ HALTED ∷ WAIT ∷ more
 abbrev pub faults : List ℕ
 faults = NOT-IN-FOURS ∷ SHORT-HEADER ∷ BAD-TAG ∷ UNKNOWN-MSGID ∷ RESERVED ∷ OUT-OF-TURN ∷ TOO-LONG ∷ WRONG-LENGTH ∷ MISALIGNED ∷ []
 
--- the nine calls, whatever their input
+-- the ten calls, whatever their input
 pub data Kind : Type 0 where
-  setup out poll taking offering status panel reset suspending : Kind
+  setup out poll interrupting taking offering status panel reset suspending : Kind
 
 abbrev pub quietKind : Quiet → Kind
 quietKind (in-poll room) = poll
+quietKind (interrupt-poll room) = interrupting
 quietKind (offer-reply bytes) = offering
 quietKind (set-status value) = status
 quietKind front-panel = panel
@@ -36,6 +37,7 @@ unfoldable pub own : Kind → List ℕ
 own setup = UNSOUND ∷ WRONG-SIZE ∷ NO-ROW ∷ []
 own out = bulk faults
 own poll = bulk []
+own interrupting = bulk []
 own taking = UNSOUND ∷ UNCONFIGURED ∷ NOT-NOW ∷ WRONG-SIZE ∷ []
 own offering = UNSOUND ∷ UNCONFIGURED ∷ WRONG-SIZE ∷ NOT-NOW ∷ []
 own status = UNSOUND ∷ UNCONFIGURED ∷ []

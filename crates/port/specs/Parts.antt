@@ -12,6 +12,8 @@ use Rattle.port.specs.declared.types.BulkOut.{BulkOut}
 use Rattle.port.specs.declared.types.InReply.{InReply}
 use Rattle.port.specs.declared.types.InTransfer.{InTransfer}
 use Rattle.port.specs.declared.types.BulkIn.{BulkIn}
+use Rattle.port.specs.declared.types.Notify.{Notify}
+use Rattle.port.specs.declared.types.InterruptIn.{InterruptIn}
 use Rattle.port.specs.declared.types.Split.{Split}
 use Rattle.port.specs.declared.types.Split.the-variants.{None, AbortOut, AbortIn, Clear}
 use Rattle.port.specs.declared.types.Remote.{Remote}
@@ -99,6 +101,9 @@ outOf st = st .small .bulkout
 abbrev pub inOf : State → BulkIn
 inOf st = st .small .bulkin
 
+abbrev pub interruptOf : State → InterruptIn
+interruptOf st = st .small .interrupt
+
 abbrev pub packetSize : State → ℕ
 packetSize st = portOf st .setting .packet
 
@@ -136,13 +141,16 @@ owedIn tag = transferIn OWED tag 0 OFF 0 0 0
 -- ** one part set, the others kept
 
 abbrev pub withPort : State → Port → State
-withPort st p = record { small = record { port = p; bulkout = outOf st; bulkin = inOf st }; split = st .split; remote = st .remote }
+withPort st p = record { small = record { port = p; bulkout = outOf st; bulkin = inOf st; interrupt = interruptOf st }; split = st .split; remote = st .remote }
 
 abbrev pub withOut : State → BulkOut → State
-withOut st o = record { small = record { port = portOf st; bulkout = o; bulkin = inOf st }; split = st .split; remote = st .remote }
+withOut st o = record { small = record { port = portOf st; bulkout = o; bulkin = inOf st; interrupt = interruptOf st }; split = st .split; remote = st .remote }
 
 abbrev pub withIn : State → BulkIn → State
-withIn st b = record { small = record { port = portOf st; bulkout = outOf st; bulkin = b }; split = st .split; remote = st .remote }
+withIn st b = record { small = record { port = portOf st; bulkout = outOf st; bulkin = b; interrupt = interruptOf st }; split = st .split; remote = st .remote }
+
+abbrev pub withInterrupt : State → InterruptIn → State
+withInterrupt st i = record { small = record { port = portOf st; bulkout = outOf st; bulkin = inOf st; interrupt = i }; split = st .split; remote = st .remote }
 
 abbrev pub withSplit : State → Split → State
 withSplit st s = record { small = st .small; split = s; remote = st .remote }
@@ -151,10 +159,7 @@ abbrev pub withRemote : State → Remote → State
 withRemote st r = record { small = st .small; split = st .split; remote = r }
 
 abbrev pub withRen : Port → ℕ → Port
-withRen p r = record { setting = p .setting; configured = p .configured; ren = r; status = p .status }
-
-abbrev pub withStatus : Port → ℕ → Port
-withStatus p s = record { setting = p .setting; configured = p .configured; ren = p .ren; status = s }
+withRen p r = record { setting = p .setting; configured = p .configured; ren = r }
 
 -- the message and the transfer of Bulk-OUT; the reply and the transfer of Bulk-IN
 abbrev pub holding : BulkOut → OutMessage → OutTransfer → BulkOut
@@ -166,6 +171,15 @@ carrying b r t = record { reply = r; transfer = t; halted = b .halted; recent = 
 abbrev pub withInHalted : BulkIn → ℕ → BulkIn
 withInHalted b h = record { reply = b .reply; transfer = b .transfer; halted = h; recent = b .recent }
 
+abbrev pub withStatus : InterruptIn → ℕ → InterruptIn
+withStatus i s = record { status = s; waiting = i .waiting; halted = i .halted }
+
+abbrev pub withWaiting : InterruptIn → Notify → InterruptIn
+withWaiting i n = record { status = i .status; waiting = n; halted = i .halted }
+
+abbrev pub withInterruptHalted : InterruptIn → ℕ → InterruptIn
+withInterruptHalted i h = record { status = i .status; waiting = i .waiting; halted = h }
+
 -- ** power-on
 
 -- nothing held, no transfer open
@@ -176,13 +190,18 @@ emptyOut halted recent = record { message = noMessage; transfer = closedOut; hal
 abbrev pub emptyIn : InTransfer → ℕ → ℕ → BulkIn
 emptyIn transfer halted recent = record { reply = noReply; transfer = transfer; halted = halted; recent = recent }
 
+-- no packet waits on Interrupt-IN
+abbrev pub noPacket : Notify
+noPacket = record { notify1 = 0; notify2 = 0 }
+
 -- "unconfigured, with nothing stored, open, halted or in progress, REN off, LOCS, status byte 0"; "1 configured, 0 not"
 unfoldable pub fresh : Setting → ℕ → State
 fresh setting configured = record {
   small = record {
-    port = record { setting = setting; configured = configured; ren = OFF; status = 0 };
+    port = record { setting = setting; configured = configured; ren = OFF };
     bulkout = emptyOut OFF 0;
     bulkin = emptyIn closedIn OFF 0;
+    interrupt = record { status = 0; waiting = noPacket; halted = OFF };
   };
   split = None;
   remote = Locs;

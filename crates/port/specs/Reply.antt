@@ -13,7 +13,7 @@ use Rattle.wire.specs.When.{at, fourAt}
 use Rattle.port.specs.Parts.{CLOSED, ASKED, SENDING, on, outOf, inOf, packetSize}
 use Rattle.port.specs.Answer.{Answer}
 use Rattle.port.specs.Device.{Device, isSound, unsentOf, powerOn}
-use Rattle.port.specs.Step.{Quiet, in-poll, offer-reply, set-status, front-panel, bus-suspend, Call, setup-packet, out-packet, take-into, bus-reset, quiet, Stepping}
+use Rattle.port.specs.Step.{Quiet, in-poll, interrupt-poll, offer-reply, set-status, front-panel, bus-suspend, Call, setup-packet, out-packet, take-into, bus-reset, quiet, Stepping}
 use Rattle.port.specs.Trace.{Event, trace}
 use Rattle.port.specs.Laws.{Stored}
 use Rattle.port.specs.declared.types.Setting.{Setting}
@@ -158,6 +158,7 @@ afterSetup r s a = pick (a .verdict .number =ᵇ 0) (byBytes r (at s 0) (at s 1)
 
 abbrev pub afterQuiet : ℕ → Reader → Quiet → Answer → Reader
 afterQuiet P r (in-poll room) a = pick (a .verdict .number =ᵇ 0) (afterPoll P r (r .line)) r
+afterQuiet P r (interrupt-poll room) a = r
 afterQuiet P r (offer-reply bytes) a = pick (a .verdict .number =ᵇ 0) (record { due = r .due; unsent = bytes; line = r .line }) r
 afterQuiet P r (set-status status) a = r
 afterQuiet P r front-panel a = r
@@ -200,6 +201,7 @@ Closed (sending ps) = ⊥
 
 abbrev pub ExpectsQuiet : ℕ → Reader → Quiet → Answer → Type 0
 ExpectsQuiet P r (in-poll room) a = a .verdict .number ≡ 0 → Polled P (r .unsent) (r .line) (a .bytes)
+ExpectsQuiet P r (interrupt-poll room) a = Unit {0}
 ExpectsQuiet P r (offer-reply bytes) a = a .verdict .number ≡ 0 → (r .unsent ≡ []) × Free (r .line) × Not (bytes ≡ [])
 ExpectsQuiet P r (set-status status) a = Unit {0}
 ExpectsQuiet P r front-panel a = Unit {0}

@@ -1,26 +1,28 @@
 -- What each setup row answers and leaves. 01, "Setup rows" and the paragraphs below its table.
 -- Assumes nothing.
-use Prim.Native.Nat.{ℕ, _+_, _*_, _/_, _%_}
+use Prim.Native.Nat.{ℕ}
 use mathlib.Core.Bool.{Bool}
 use mathlib.Core.List.{List, [], _∷_, _++_}
 use Rattle.rules.specs.Choice.{_≠ᵇ_, no, pick, _⇒_∣_, decide}
-use Rattle.rules.specs.Answers.{DONE, SUCCESS, PENDING, FAILED, TRANSFER-NOT-IN-PROGRESS, SPLIT-NOT-IN-PROGRESS, SPLIT-IN-PROGRESS, TELLS-PULSE, done}
+use Rattle.rules.specs.Answers.{DONE, SUCCESS, PENDING, INTERRUPT-IN-BUSY, FAILED, TRANSFER-NOT-IN-PROGRESS, SPLIT-NOT-IN-PROGRESS, SPLIT-IN-PROGRESS, TELLS-PULSE, done}
 use Rattle.wire.specs.Bytes.{bytes4}
 use Rattle.wire.specs.Header.{D0, OFF, ON}
 use Rattle.wire.specs.declared.types.Endpoint.{Endpoint}
-use Rattle.wire.specs.declared.types.Endpoint.the-variants.{Out, In}
+use Rattle.wire.specs.declared.types.Endpoint.the-variants.{Out, In, Interrupt}
 use Rattle.wire.specs.declared.types.Row.{Row}
 use Rattle.wire.specs.declared.types.Row.the-variants.{InitiateAbortBulkOut, CheckAbortBulkOutStatus, InitiateAbortBulkIn, CheckAbortBulkInStatus, InitiateClear, CheckClearStatus, GetCapabilities, IndicatorPulse, ReadStatusByte, RenControl, GoToLocal, LocalLockout, ClearFeature, SetFeature, GetStatus}
-use Rattle.port.specs.Parts.{on, isOpenOut, isOpenIn, isOwed, isNone, keepsHalt, isClear, portOf, outOf, inOf, closedIn, owedIn, withPort, withOut, withIn, withSplit, withRemote, withRen, withInHalted, emptyOut, emptyIn, broken, haltedOut, shut}
+use Rattle.port.specs.Parts.{on, isOpenOut, isOpenIn, isOwed, isNone, keepsHalt, isClear, portOf, outOf, inOf, interruptOf, closedIn, owedIn, withPort, withOut, withIn, withInterrupt, withSplit, withRemote, withRen, withInHalted, withInterruptHalted, emptyOut, emptyIn, broken, haltedOut, shut}
 use Rattle.port.specs.Remote.{toLocal, lockedOut, withRenOn, localNow}
 use Rattle.port.specs.Answer.{Answer, Said}
+use Rattle.port.specs.Interrupt.{isWaiting, statusQueued}
 use Rattle.port.specs.declared.types.BulkOut.{BulkOut}
 use Rattle.port.specs.declared.types.BulkIn.{BulkIn}
+use Rattle.port.specs.declared.types.InterruptIn.{InterruptIn}
 use Rattle.port.specs.declared.types.Split.{Split}
 use Rattle.port.specs.declared.types.Split.the-variants.{None, AbortOut, AbortIn, Clear}
 use Rattle.port.specs.declared.types.State.{State}
 use Rattle.port.specs.declared.types.Effect.{Effect}
-use Rattle.port.specs.declared.types.Effect.the-variants.{Stays, AbortsOut, AbortsIn, Clears, EndsSplit, SetsRen, GoesToLocal, LocksOut, ClearsHalt, SetsHalt}
+use Rattle.port.specs.declared.types.Effect.the-variants.{Stays, AbortsOut, AbortsIn, Clears, EndsSplit, SetsRen, GoesToLocal, LocksOut, ClearsHalt, SetsHalt, Queues}
 
 -- what a row answers, and what it does to the state
 pub record Reaction : Type 0 where
@@ -101,20 +103,25 @@ checkClear b split =
     (pick (isOwed b) (answering (PENDING ∷ D0 ∷ []))
     (reacts EndsSplit (SUCCESS ∷ 0 ∷ [])))
 
+-- ** the status byte
+
+-- "While it waits, READ_STATUS_BYTE gets status 0x20"; it "answers 0x00 in its third byte"
+unfoldable pub readStatus : InterruptIn → ℕ → Reaction
+readStatus i tag =
+    pick (isWaiting i) (answering (INTERRUPT-IN-BUSY ∷ tag ∷ 0x00 ∷ []))
+    (reacts (Queues tag) (SUCCESS ∷ tag ∷ 0x00 ∷ []))
+
 -- ** the rows, in the order of the table
 
--- "status byte with bit 6 cleared"
-abbrev pub shown : ℕ → ℕ
-shown status = status / 128 * 128 + status % 64
-
--- "24: 01 00 00 01 04 01, six 0, 00 01 03 03, eight 0"
+-- "24: 01 00 00 01 04 01, six 0, 00 01 03 03, eight 0"; 02, request 1: "Capabilities gain SR1", which is D2 of the byte at 15
 abbrev pub capabilities : List ℕ
 capabilities =
-    0x01 ∷ 0x00 ∷ 0x00 ∷ 0x01 ∷ 0x04 ∷ 0x01 ∷ 0 ∷ 0 ∷ 0 ∷ 0 ∷ 0 ∷ 0 ∷ 0x00 ∷ 0x01 ∷ 0x03 ∷ 0x03 ∷ 0 ∷ 0 ∷ 0 ∷ 0 ∷ 0 ∷ 0 ∷ 0 ∷ 0 ∷ []
+    0x01 ∷ 0x00 ∷ 0x00 ∷ 0x01 ∷ 0x04 ∷ 0x01 ∷ 0 ∷ 0 ∷ 0 ∷ 0 ∷ 0 ∷ 0 ∷ 0x00 ∷ 0x01 ∷ 0x03 ∷ 0x07 ∷ 0 ∷ 0 ∷ 0 ∷ 0 ∷ 0 ∷ 0 ∷ 0 ∷ 0 ∷ []
 
 abbrev pub halt : State → Endpoint → ℕ
 halt st Out = outOf st .halted
 halt st In = inOf st .halted
+halt st Interrupt = interruptOf st .halted
 
 unfoldable pub answerRow : State → Row → Reaction
 answerRow st (InitiateAbortBulkOut tag) = initiateAbortOut st tag
@@ -126,7 +133,7 @@ answerRow st CheckClearStatus = checkClear (inOf st) (st .split)
 answerRow st GetCapabilities = answering capabilities
 answerRow st IndicatorPulse =
     record { effect = Stays; answer = record { verdict = record { number = DONE; tells = TELLS-PULSE }; bytes = SUCCESS ∷ [] } }
-answerRow st (ReadStatusByte tag) = answering (SUCCESS ∷ tag ∷ shown (portOf st .status) ∷ [])
+answerRow st (ReadStatusByte tag) = readStatus (interruptOf st) tag
 answerRow st (RenControl ren) = reacts (SetsRen ren) (SUCCESS ∷ [])
 answerRow st GoToLocal = reacts GoesToLocal (SUCCESS ∷ [])
 answerRow st LocalLockout = reacts LocksOut (SUCCESS ∷ [])
@@ -169,6 +176,7 @@ clearFeatureIn b =
     pick (isOwed b) (shut (withInHalted b OFF))
     (pick (isOpenIn b) (emptyIn closedIn OFF (b .recent)) (withInHalted b OFF))
 
+-- of Interrupt-IN: the halt alone, "dropping no packet"
 unfoldable pub effected : State → Effect → State
 effected st Stays = st
 effected st AbortsOut = abortedOut st
@@ -180,8 +188,11 @@ effected st GoesToLocal = withRemote st (toLocal (st .remote))
 effected st LocksOut = withRemote st (withRenOn lockedOut (portOf st .ren) (st .remote))
 effected st (ClearsHalt Out) = withOut st (clearFeatureOut (st .split) (outOf st))
 effected st (ClearsHalt In) = withIn st (clearFeatureIn (inOf st))
+effected st (ClearsHalt Interrupt) = withInterrupt st (withInterruptHalted (interruptOf st) OFF)
 effected st (SetsHalt Out) = haltedOut st
 effected st (SetsHalt In) = withIn st (withInHalted (inOf st) ON)
+effected st (SetsHalt Interrupt) = withInterrupt st (withInterruptHalted (interruptOf st) ON)
+effected st (Queues tag) = withInterrupt st (statusQueued (interruptOf st) tag)
 
 -- the row's answer, and the state after it
 abbrev pub reacted : State → Reaction → Said

@@ -4,14 +4,17 @@
 use Prim.Native.Nat.{ℕ, _-_}
 use mathlib.Core.Bool.{Bool, false}
 use mathlib.Core.List.{[]}
-use Rattle.rules.specs.Choice.{_=ᵇ_, _≠ᵇ_, _≤ᵇ_, no, _or_, _and_, pick, _⇒_∣_, first, _&_, all, implies}
+use Rattle.rules.specs.Choice.{_=ᵇ_, _≠ᵇ_, _<ᵇ_, _≤ᵇ_, no, _or_, _and_, pick, _⇒_∣_, first, _&_, all, implies}
 use Rattle.wire.specs.Header.{OFF, ON}
-use Rattle.port.specs.Parts.{STORE, isSize, CLOSED, ASKED, SENDING, OWED, on, isOpenOut, isOwed, portOf, outOf, inOf}
+use Rattle.port.specs.Parts.{STORE, isSize, CLOSED, ASKED, SENDING, OWED, on, isOpenOut, isOwed, portOf, outOf, inOf, interruptOf}
+use Rattle.port.specs.Interrupt.{asksService, SERVICE-REQUEST, isWaiting}
 use Rattle.port.specs.declared.types.Port.{Port}
 use Rattle.port.specs.declared.types.OutMessage.{OutMessage}
 use Rattle.port.specs.declared.types.BulkOut.{BulkOut}
 use Rattle.port.specs.declared.types.InTransfer.{InTransfer}
 use Rattle.port.specs.declared.types.BulkIn.{BulkIn}
+use Rattle.port.specs.declared.types.Notify.{Notify}
+use Rattle.port.specs.declared.types.InterruptIn.{InterruptIn}
 use Rattle.port.specs.declared.types.Split.{Split}
 use Rattle.port.specs.declared.types.Split.the-variants.{None, AbortOut, AbortIn, Clear}
 use Rattle.port.specs.declared.types.State.{State}
@@ -96,6 +99,24 @@ inSound b =
     b .reply .unsent ≤ᵇ STORE - b .reply .at &
     phaseSound (b .reply .unsent) (b .transfer) & [])
 
+-- a packet that waits: of a service request, with bit 6 on; of READ_STATUS_BYTE, whose tag is 2 at least, with bit 6 off
+unfoldable pub packetSound : Notify → Bool
+packetSound n =
+    first
+    (n .notify1 =ᵇ SERVICE-REQUEST ⇒ asksService (n .notify2) ∣
+    SERVICE-REQUEST <ᵇ n .notify1 ⇒ no (asksService (n .notify2)) ∣ [])
+    false
+
+unfoldable pub waitingSound : InterruptIn → Bool
+waitingSound i = all (isFlag (i .halted) & packetSound (i .waiting) & [])
+
+-- while none waits bit 6 is off
+unfoldable pub silentSound : InterruptIn → Bool
+silentSound i = all (isFlag (i .halted) & i .waiting .notify2 =ᵇ 0 & no (asksService (i .status)) & [])
+
+unfoldable pub interruptSound : InterruptIn → Bool
+interruptSound i = pick (isWaiting i) (waitingSound i) (silentSound i)
+
 -- "a clear": Bulk-OUT halted, nothing held, no reply, both recent tags 0, and an IN transfer open only while its packet is owed
 unfoldable pub clearSound : BulkOut → BulkIn → Bool
 clearSound o b =
@@ -126,4 +147,5 @@ sound st =
     (portSound (portOf st) &
     outSound (outOf st) &
     inSound (inOf st) &
+    interruptSound (interruptOf st) &
     splitSound (st .split) (outOf st) (inOf st) & [])

@@ -6,17 +6,18 @@ use Rattle.rules.specs.Choice.{pick}
 use Rattle.rules.specs.Answers.{UNSOUND}
 use Rattle.port.specs.Answer.{Answer}
 use Rattle.port.specs.Device.{Device, Result, isSound}
-use Rattle.port.specs.Calls.{refused, bulkOut, bulkIn, setup, take-message, offer, setStatus, panel, busReset, suspend}
+use Rattle.port.specs.Calls.{refused, bulkOut, bulkIn, interruptIn, setup, take-message, offer, setStatus, panel, busReset, suspend}
 
 -- what a setup packet is given: its bytes, and the length of the control buffer
 pub record SetupPacket : Type 0 where
   pub packet : List ℕ
   pub room : ℕ
 
--- the nine calls; a number stands for the length of a lent buffer. Those that bring, take and break no message are one kind, so that a definition
+-- the ten calls; a number stands for the length of a lent buffer. Those that bring, take and break no message are one kind, so that a definition
 -- or a proof about messages has one line for them
 pub data Quiet : Type 0 where
   in-poll : ℕ → Quiet
+  interrupt-poll : ℕ → Quiet
   offer-reply : List ℕ → Quiet
   set-status : ℕ → Quiet
   front-panel bus-suspend : Quiet
@@ -38,6 +39,7 @@ Stepping = Device → Call → Result
 -- what a sound unit does
 unfoldable pub quietly : Device → Quiet → Result
 quietly u (in-poll room) = bulkIn u room
+quietly u (interrupt-poll room) = interruptIn u room
 quietly u (offer-reply bytes) = offer u bytes
 quietly u (set-status status) = setStatus u status
 quietly u front-panel = panel u

@@ -5,7 +5,7 @@ use mathlib.Core.List.{List, [], _∷_}
 use lib.ListN.{getD}
 use Rattle.port.specs.Answer.{Answer}
 use Rattle.port.specs.Device.{Device}
-use Rattle.port.specs.Step.{Quiet, in-poll, offer-reply, set-status, front-panel, bus-suspend, Call, setup-packet, out-packet, take-into, bus-reset, quiet, Stepping}
+use Rattle.port.specs.Step.{Quiet, in-poll, interrupt-poll, offer-reply, set-status, front-panel, bus-suspend, Call, setup-packet, out-packet, take-into, bus-reset, quiet, Stepping}
 
 pub record Event : Type 0 where
   pub call : Call
@@ -21,6 +21,7 @@ Octets s = (i : ℕ) → getD s i 0 < 256
 
 abbrev pub QuietInOctets : Quiet → Type 0
 QuietInOctets (in-poll room) = Unit {0}
+QuietInOctets (interrupt-poll room) = Unit {0}
 QuietInOctets (offer-reply bytes) = Octets bytes
 QuietInOctets (set-status status) = status < 256
 QuietInOctets front-panel = Unit {0}

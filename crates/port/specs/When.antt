@@ -12,10 +12,11 @@ use Rattle.wire.specs.When.{fourAt, Zeros, Commands, Requests, Triggers, NotInF
 use Rattle.wire.specs.declared.types.Setup.{Setup}
 use Rattle.wire.specs.declared.types.Setup.the-variants.{Configure, Asks, NoRow}
 use Rattle.port.specs.Device.{Device, Result, isSound}
-use Rattle.port.specs.Step.{Quiet, in-poll, offer-reply, set-status, front-panel, bus-suspend, SetupPacket, Call, setup-packet, out-packet, take-into, bus-reset, quiet, Stepping}
+use Rattle.port.specs.Step.{Quiet, in-poll, interrupt-poll, offer-reply, set-status, front-panel, bus-suspend, SetupPacket, Call, setup-packet, out-packet, take-into, bus-reset, quiet, Stepping}
 use Rattle.port.specs.declared.types.Setting.{Setting}
 use Rattle.port.specs.declared.types.BulkOut.{BulkOut}
 use Rattle.port.specs.declared.types.BulkIn.{BulkIn}
+use Rattle.port.specs.declared.types.InterruptIn.{InterruptIn}
 use Rattle.port.specs.declared.types.Split.the-variants.{Clear}
 
 -- ** the parts of a unit that a condition looks at
@@ -25,6 +26,9 @@ outSide u = u .state .small .bulkout
 
 abbrev inSide : Device → BulkIn
 inSide u = u .state .small .bulkin
+
+abbrev interruptSide : Device → InterruptIn
+interruptSide u = u .state .small .interrupt
 
 abbrev P : Device → ℕ
 P u = u .state .small .port .setting .packet
@@ -45,6 +49,9 @@ OutHalted u = outSide u .halted ≡ 1
 
 abbrev pub InHalted : Device → Type 0
 InHalted u = inSide u .halted ≡ 1
+
+abbrev pub InterruptHalted : Device → Type 0
+InterruptHalted u = interruptSide u .halted ≡ 1
 
 -- "a message is ready"; a part of one has come, and its end has not
 abbrev pub MessageReady : Device → Type 0
@@ -67,6 +74,10 @@ Owed u = inSide u .transfer .phase ≡ 3
 -- bytes of the reply are unsent, or the transfer that has them all (2) is not closed yet
 abbrev pub ReplyStored : Device → Type 0
 ReplyStored u = Not (inSide u .reply .unsent ≡ 0) ⊎ (inSide u .transfer .phase ≡ 2)
+
+-- 02, request 1: "One packet waits at a time": its first byte is not 0, which is none's
+abbrev pub Waits : Device → Type 0
+Waits u = Not (interruptSide u .waiting .notify1 ≡ 0)
 
 -- ** a Bulk-OUT packet
 
@@ -137,6 +148,15 @@ givenIn u room =
     4 when InHalted u ∣
     5 when (Not (Owed u) × (Not (InOpen u) ⊎ Not (ReplyStored u))) ∣ else-0
 
+-- 02, request 1: "polling 0x83 goes 1, 2, 3 (buffer under 2), 4 halted, 5 empty"
+abbrev pub givenInterrupt : Device → ℕ → ℕ → Type 0
+givenInterrupt u room =
+    1 when Unsound u ∣
+    2 when Unconfigured u ∣
+    3 when (room < 2) ∣
+    4 when InterruptHalted u ∣
+    5 when Not (Waits u) ∣ else-0
+
 -- "Unconfigured, only SET_CONFIGURATION is served"
 abbrev pub Configures : Setup → Type 0
 Configures (Configure value) = Unit {0}
@@ -180,6 +200,7 @@ givenBus u = 1 when Unsound u ∣ else-0
 
 abbrev pub givenQuiet : Device → Quiet → ℕ → Type 0
 givenQuiet u (in-poll room) = givenIn u room
+givenQuiet u (interrupt-poll room) = givenInterrupt u room
 givenQuiet u (offer-reply bytes) = givenOffer u bytes
 givenQuiet u (set-status status) = givenPanel u
 givenQuiet u front-panel = givenPanel u

@@ -12,6 +12,11 @@ pub const FULL_SPEED: u16 = 64;
 
 pub const HIGH_SPEED: u16 = 512;
 
+// The first byte of a packet of Interrupt-IN: that of a service request, and the bit that stands over a tag.
+pub const SERVICE_REQUEST: u8 = 0x81;
+
+pub const TOP_BIT: u8 = 0x80;
+
 // The phases of a Bulk-IN transfer.
 pub const CLOSED: u8 = 0;
 
@@ -32,7 +37,6 @@ pub struct Port {
     pub setting: Setting,
     pub configured: u8,
     pub ren: u8,
-    pub status: u8,
 }
 
 // The message that comes in: `held` data bytes of it are in the store, and it is `ready` once it is whole.
@@ -88,11 +92,27 @@ pub struct BulkIn {
     pub recent: u8,
 }
 
+// A packet of Interrupt-IN, by USB488's names for its two bytes. There is none where the first is 0.
+#[repr(C)]
+pub struct Notify {
+    pub notify1: u8,
+    pub notify2: u8,
+}
+
+// Interrupt-IN, with the status byte that its packets tell of. A service request is kept while bit 6 of `status` is on.
+#[repr(C)]
+pub struct InterruptIn {
+    pub status: u8,
+    pub waiting: Notify,
+    pub halted: u8,
+}
+
 #[repr(C)]
 pub struct Small {
     pub port: Port,
     pub bulkout: BulkOut,
     pub bulkin: BulkIn,
+    pub interrupt: InterruptIn,
 }
 
 // The split in progress, with the count of an abort.
@@ -161,4 +181,5 @@ pub enum Effect {
     LocksOut,
     ClearsHalt { endpoint: Endpoint },
     SetsHalt { endpoint: Endpoint },
+    Queues { tag: u8 },
 }

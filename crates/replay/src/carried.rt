@@ -1,9 +1,11 @@
 // Each call with its words: read, carried out on the unit, and answered. What cannot be read leaves the unit as it was.
 use crate::lent::lend_in;
+use crate::lent::lend_interrupt;
 use crate::lent::lend_setup;
 use crate::lent::lend_take;
 use crate::played::Played;
 use answers::answer::put_done;
+use answers::overview::put_more;
 use answers::overview::put_overview;
 use lines::given::Given;
 use lines::given::given_bytes;
@@ -17,8 +19,10 @@ use unit::types::Unit;
 use words::numbers::BYTES;
 use words::numbers::start;
 
-// The buffer that a setup packet is lent where none is named.
+// The buffers that a setup packet and a poll of Interrupt-IN are lent where none is named.
 const CONTROL_BUFFER: usize = 24;
+
+const INTERRUPT_BUFFER: usize = 2;
 
 fn wide(n: u16) -> usize {
     n as usize
@@ -88,6 +92,14 @@ pub fn packet_in(unit: Unit, length: &[u8], out: &mut [u8], at: usize) -> Played
     }
 }
 
+pub fn packet_interrupt(unit: Unit, length: &[u8], out: &mut [u8], at: usize) -> Played {
+    let given = given_length(length, INTERRUPT_BUFFER, out, at);
+    match given {
+        Given::Wrong(end) => Played { unit, at: end },
+        Given::Number(n) => lend_interrupt(unit, n, out, at),
+    }
+}
+
 pub fn take(unit: Unit, length: &[u8], out: &mut [u8], at: usize) -> Played {
     let given = given_length(length, wide(STORE), out, at);
     match given {
@@ -119,5 +131,11 @@ pub fn overview(unit: Unit, out: &mut [u8], at: usize) -> Played {
     let split = unit.split;
     let remote = unit.remote;
     let end = put_overview(out, at, small, split, remote);
+    Played { unit, at: end }
+}
+
+pub fn more(unit: Unit, out: &mut [u8], at: usize) -> Played {
+    let small = unit.small;
+    let end = put_more(out, at, small);
     Played { unit, at: end }
 }

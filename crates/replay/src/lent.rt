@@ -34,6 +34,12 @@ pub fn lend_in(unit: Unit, n: usize, out: &mut [u8], at: usize) -> Played {
     answered(told, start(&buffer, n), out, at)
 }
 
+pub fn lend_interrupt(unit: Unit, n: usize, out: &mut [u8], at: usize) -> Played {
+    let mut buffer = [FILL; BYTES];
+    let told = unit.interrupt_in(first_lent(&mut buffer, n));
+    answered(told, start(&buffer, n), out, at)
+}
+
 pub fn lend_take(unit: Unit, n: usize, out: &mut [u8], at: usize) -> Played {
     let mut buffer = [FILL; BYTES];
     let told = unit.take(first_lent(&mut buffer, n));

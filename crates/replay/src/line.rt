@@ -1,8 +1,10 @@
 // One line: the call that it asks for, carried out, and its answer.
 use crate::carried::answered;
+use crate::carried::more;
 use crate::carried::offer;
 use crate::carried::overview;
 use crate::carried::packet_in;
+use crate::carried::packet_interrupt;
 use crate::carried::packet_out;
 use crate::carried::power;
 use crate::carried::setup;
@@ -28,6 +30,7 @@ fn carried_out(
         Name::Setup => setup(unit, first, second, out, at),
         Name::Out => packet_out(unit, first, out, at),
         Name::In => packet_in(unit, first, out, at),
+        Name::Interrupt => packet_interrupt(unit, first, out, at),
         Name::Take => take(unit, first, out, at),
         Name::Offer => offer(unit, first, out, at),
         Name::Status => status(unit, first, out, at),
@@ -35,6 +38,7 @@ fn carried_out(
         Name::Reset => answered(unit.bus_reset(), out, at),
         Name::Suspend => answered(unit.suspend(), out, at),
         Name::State => overview(unit, out, at),
+        Name::More => more(unit, out, at),
         Name::Unknown => Played { unit, at },
     }
 }

@@ -101,6 +101,10 @@ SUCCESS = 0x01
 abbrev pub PENDING : ℕ
 PENDING = 0x02
 
+-- 02, request 1: READ_STATUS_BYTE while a packet waits on Interrupt-IN
+abbrev pub INTERRUPT-IN-BUSY : ℕ
+INTERRUPT-IN-BUSY = 0x20
+
 abbrev pub FAILED : ℕ
 FAILED = 0x80
 

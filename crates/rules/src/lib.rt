@@ -40,6 +40,8 @@ pub const SUCCESS: u8 = 0x01;
 
 pub const PENDING: u8 = 0x02;
 
+pub const INTERRUPT_IN_BUSY: u8 = 0x20;
+
 pub const FAILED: u8 = 0x80;
 
 pub const TRANSFER_NOT_IN_PROGRESS: u8 = 0x81;

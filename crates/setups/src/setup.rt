@@ -12,6 +12,8 @@ const BULK_OUT: u32 = 0x01;
 
 const BULK_IN: u32 = 0x82;
 
+const INTERRUPT_IN: u32 = 0x83;
+
 fn fitting(value: u32, low: u32, high: u32, at: u32, index: u32, long: u32, size: u32) -> bool
     ensures { λ r. ⌜ r ≡ fitting value low high at index long size ⌝ }
 {
@@ -52,9 +54,9 @@ fn row(fits: bool, asked: Row) -> Setup
 }
 
 // A row that names its endpoint by wIndex.
-fn by_endpoint(s: &[u8], size: u32, out: Row, inward: Row) -> Setup
+fn by_endpoint(s: &[u8], size: u32, out: Row, inward: Row, interrupt: Row) -> Setup
     requires { ⌜ 8 ≤ length (now s) ⌝ }
-    ensures { λ r. ⌜ r ≡ ofEndpoint (now (s .entry)) size out inward ⌝ }
+    ensures { λ r. ⌜ r ≡ ofEndpoint (now (s .entry)) size out inward interrupt ⌝ }
 {
     let index = le_u16(s, 4);
     if index == BULK_OUT {
@@ -62,6 +64,9 @@ fn by_endpoint(s: &[u8], size: u32, out: Row, inward: Row) -> Setup
     }
     if index == BULK_IN {
         return row(matches(s, 0, 0, BULK_IN, size), inward);
+    }
+    if index == INTERRUPT_IN {
+        return row(matches(s, 0, 0, INTERRUPT_IN, size), interrupt);
     }
     Setup::NoRow
 }
@@ -124,6 +129,9 @@ fn to_feature(s: &[u8]) -> Setup
             Row::ClearFeature {
                 endpoint: Endpoint::In,
             },
+            Row::ClearFeature {
+                endpoint: Endpoint::Interrupt,
+            },
         ),
         3 => by_endpoint(
             s,
@@ -133,6 +141,9 @@ fn to_feature(s: &[u8]) -> Setup
             },
             Row::SetFeature {
                 endpoint: Endpoint::In,
+            },
+            Row::SetFeature {
+                endpoint: Endpoint::Interrupt,
             },
         ),
         _ => Setup::NoRow,
@@ -153,6 +164,9 @@ fn to_status(s: &[u8]) -> Setup
             },
             Row::GetStatus {
                 endpoint: Endpoint::In,
+            },
+            Row::GetStatus {
+                endpoint: Endpoint::Interrupt,
             },
         );
     }

@@ -6,17 +6,21 @@ use port::types::CLOSED;
 use port::types::FULL_SPEED;
 use port::types::HIGH_SPEED;
 use port::types::InTransfer;
+use port::types::InterruptIn;
+use port::types::Notify;
 use port::types::OWED;
 use port::types::OutMessage;
 use port::types::Port;
 use port::types::SENDING;
+use port::types::SERVICE_REQUEST;
 use port::types::STORE;
 use port::types::Split;
 use port::types::State;
 ghost use mathlib.Core.Path.{_≡_};
 ghost use Prim.Native.Nat.{ℕ};
 ghost use Rattle.port.specs.Parts.{isSize};
-ghost use Rattle.port.specs.Sound.{portSound, openSound, heldSound, restingSound, outSound, unasked, unsending, idle, askedSound, sendingSound, phaseSound, inSound, clearSound, notOwed, abortOutSound, splitSound, sound};
+ghost use Rattle.port.specs.Interrupt.{asksService, isWaiting};
+ghost use Rattle.port.specs.Sound.{portSound, openSound, heldSound, restingSound, outSound, unasked, unsending, idle, askedSound, sendingSound, phaseSound, inSound, packetSound, waitingSound, silentSound, interruptSound, clearSound, notOwed, abortOutSound, splitSound, sound};
 
 // A packet size of 64 or 512.
 pub fn is_size(p: u16) -> bool
@@ -242,6 +246,74 @@ fn in_sound(b: BulkIn) -> bool
     phase_sound(b.reply.unsent, t)
 }
 
+// Bit 6 of a status byte is on.
+pub fn asks_service(status: u8) -> bool
+    ensures { λ r. ⌜ r ≡ asksService status ⌝ }
+{
+    status / 64 % 2 == 1
+}
+
+// A packet waits on Interrupt-IN.
+pub fn is_waiting(i: InterruptIn) -> bool
+    ensures { λ r. ⌜ r ≡ isWaiting i ⌝ }
+{
+    if i.waiting.notify1 == 0 {
+        return false;
+    }
+    true
+}
+
+// Of a packet that waits.
+fn packet_sound(n: Notify) -> bool
+    ensures { λ r. ⌜ r ≡ packetSound n ⌝ }
+{
+    if n.notify1 == SERVICE_REQUEST {
+        return asks_service(n.notify2);
+    }
+    if SERVICE_REQUEST < n.notify1 {
+        if asks_service(n.notify2) {
+            return false;
+        }
+        return true;
+    }
+    false
+}
+
+fn waiting_sound(i: InterruptIn) -> bool
+    ensures { λ r. ⌜ r ≡ waitingSound i ⌝ }
+{
+    if 1 < i.halted {
+        return false;
+    }
+    let n = i.waiting;
+    packet_sound(n)
+}
+
+// While no packet waits bit 6 is off.
+fn silent_sound(i: InterruptIn) -> bool
+    ensures { λ r. ⌜ r ≡ silentSound i ⌝ }
+{
+    if 1 < i.halted {
+        return false;
+    }
+    if i.waiting.notify2 != 0 {
+        return false;
+    }
+    if asks_service(i.status) {
+        return false;
+    }
+    true
+}
+
+fn interrupt_sound(i: InterruptIn) -> bool
+    ensures { λ r. ⌜ r ≡ interruptSound i ⌝ }
+{
+    if i.waiting.notify1 == 0 {
+        return silent_sound(i);
+    }
+    waiting_sound(i)
+}
+
 // A clear in progress.
 fn clear_sound(o: BulkOut, b: BulkIn) -> bool
     ensures { λ r. ⌜ r ≡ clearSound o b ⌝ }
@@ -311,11 +383,15 @@ pub fn sound(st: State) -> bool
     let p = st.small.port;
     let o = st.small.bulkout;
     let b = st.small.bulkin;
+    let i = st.small.interrupt;
     let s = st.split;
     if port_sound(p) {
         if out_sound(o) {
             if in_sound(b) {
-                return split_sound(s, o, b);
+                if interrupt_sound(i) {
+                    return split_sound(s, o, b);
+                }
+                return false;
             }
             return false;
         }

@@ -8,7 +8,7 @@ use wire::numbers::bytes_of;
 ghost use mathlib.Core.Path.{_≡_};
 ghost use mathlib.Core.List.{[], _∷_};
 ghost use Prim.Native.Nat.{ℕ};
-ghost use Rattle.port.specs.Rows.{reacts, abortStatus, shown};
+ghost use Rattle.port.specs.Rows.{reacts, abortStatus};
 ghost use Rattle.splits.specs.Control.{controlOf};
 
 // Answers of no byte, and of one, two and three.
@@ -98,11 +98,4 @@ pub fn says_abort(effect: Effect, status: u8, d0: u8, count: u16) -> Control
         len: 8,
         bytes,
     }
-}
-
-// The status byte with bit 6 cleared.
-pub fn shown(status: u8) -> u8
-    ensures { λ r. ⌜ r ≡ shown status ⌝ }
-{
-    status / 128 * 128 + status % 64
 }

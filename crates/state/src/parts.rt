@@ -5,6 +5,8 @@ use port::types::BulkOut;
 use port::types::CLOSED;
 use port::types::InReply;
 use port::types::InTransfer;
+use port::types::InterruptIn;
+use port::types::Notify;
 use port::types::OWED;
 use port::types::OutMessage;
 use port::types::OutTransfer;
@@ -17,8 +19,8 @@ use port::types::Split;
 use port::types::State;
 ghost use mathlib.Core.Path.{_≡_};
 ghost use Prim.Native.Nat.{ℕ};
-ghost use Rattle.port.specs.Parts.{isNone, isClear, keepsHalt, isOpenOut, isOpenIn, withPort, withOut, withIn, withSplit, withRemote, withRen, withStatus, holding, carrying, withInHalted};
-ghost use Rattle.port.specs.Parts.{noMessage, closedOut, noReply, transferIn, closedIn, askedIn, sendingIn, owedIn, emptyOut, emptyIn, fresh, unbroken, broken, shut};
+ghost use Rattle.port.specs.Parts.{isNone, isClear, keepsHalt, isOpenOut, isOpenIn, withPort, withOut, withIn, withInterrupt, withSplit, withRemote, withRen, holding, carrying, withInHalted, withStatus, withWaiting, withInterruptHalted};
+ghost use Rattle.port.specs.Parts.{noMessage, closedOut, noReply, transferIn, closedIn, askedIn, sendingIn, owedIn, emptyOut, emptyIn, noPacket, fresh, unbroken, broken, shut};
 
 // The small parts set, the split and the remote/local state kept.
 fn with_small(st: State, small: Small) -> State
@@ -57,6 +59,14 @@ pub fn with_in(st: State, bulkin: BulkIn) -> State
     with_small(st, small)
 }
 
+pub fn with_interrupt(st: State, interrupt: InterruptIn) -> State
+    ensures { λ r. ⌜ r ≡ withInterrupt st interrupt ⌝ }
+{
+    let mut small = st.small;
+    small.interrupt = interrupt;
+    with_small(st, small)
+}
+
 pub fn with_split(st: State, split: Split) -> State
     ensures { λ r. ⌜ r ≡ withSplit st split ⌝ }
 {
@@ -86,14 +96,6 @@ pub fn with_ren(p: Port, ren: u8) -> Port
 {
     let mut next = p;
     next.ren = ren;
-    next
-}
-
-pub fn with_status(p: Port, status: u8) -> Port
-    ensures { λ r. ⌜ r ≡ withStatus p status ⌝ }
-{
-    let mut next = p;
-    next.status = status;
     next
 }
 
@@ -128,7 +130,31 @@ pub fn with_in_halted(b: BulkIn, halted: u8) -> BulkIn
     next
 }
 
-// Nothing is held; no transfer is open on Bulk-OUT; no reply is stored.
+pub fn with_status(i: InterruptIn, status: u8) -> InterruptIn
+    ensures { λ r. ⌜ r ≡ withStatus i status ⌝ }
+{
+    let mut next = i;
+    next.status = status;
+    next
+}
+
+pub fn with_waiting(i: InterruptIn, waiting: Notify) -> InterruptIn
+    ensures { λ r. ⌜ r ≡ withWaiting i waiting ⌝ }
+{
+    let mut next = i;
+    next.waiting = waiting;
+    next
+}
+
+pub fn with_interrupt_halted(i: InterruptIn, halted: u8) -> InterruptIn
+    ensures { λ r. ⌜ r ≡ withInterruptHalted i halted ⌝ }
+{
+    let mut next = i;
+    next.halted = halted;
+    next
+}
+
+// Nothing is held; no transfer is open on Bulk-OUT; no reply is stored; no packet waits on Interrupt-IN.
 pub fn no_message() -> OutMessage
     ensures { λ r. ⌜ r ≡ noMessage ⌝ }
 {
@@ -149,6 +175,15 @@ pub fn no_reply() -> InReply
     ensures { λ r. ⌜ r ≡ noReply ⌝ }
 {
     InReply { at: 0, unsent: 0 }
+}
+
+pub fn no_packet() -> Notify
+    ensures { λ r. ⌜ r ≡ noPacket ⌝ }
+{
+    Notify {
+        notify1: 0,
+        notify2: 0,
+    }
 }
 
 // An IN transfer in each of its phases.
@@ -228,13 +263,18 @@ pub fn fresh(setting: Setting, configured: u8) -> State
         setting,
         configured,
         ren: 0,
+    };
+    let interrupt = InterruptIn {
         status: 0,
+        waiting: no_packet(),
+        halted: 0,
     };
     State {
         small: Small {
             port,
             bulkout: empty_out(0, 0),
             bulkin: empty_in(closed_in(), 0, 0),
+            interrupt,
         },
         split: Split::None,
         remote: Remote::Locs,

@@ -48,7 +48,7 @@ module _ (q : Result) (u′ : List ℕ) (r : Answer) where
 pub power-on-step : (setting : Setting) (u′ : List ℕ) (r : Answer) → Leaves (shutOf (powerOn setting)) u′ r → IsStep (powerOn setting) u′ r
 power-on-step setting u′ r meets = left-step (powerOn setting) u′ r (power-silent setting) meets
 
--- ** the nine calls
+-- ** the ten calls
 
 module _ (u : List ℕ) (c : Call) (u′ : List ℕ) (r : Answer) where
   -- bytes that are a unit's: a call that is lent no buffer, and one that is

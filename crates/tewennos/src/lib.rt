@@ -5,6 +5,7 @@ use flatbus::power_on;
 use flatbus::suspend;
 use flatcalls::types::Answer;
 use flatpackets::packet::bulk_out;
+use flatpolls::interrupt::interrupt_in;
 use flatpolls::poll::bulk_in;
 use flatsetup::setup::setup;
 use flatthermostat::offer;
@@ -13,7 +14,7 @@ use flatthermostat::set_status;
 use flatthermostat::take;
 ghost use lib.ListN.{length};
 ghost use Rattle.port.specs.Device.{powerOn};
-ghost use Rattle.port.specs.Step.{quiet, in-poll, offer-reply, set-status, front-panel, bus-suspend, out-packet, take-into, bus-reset, setup-of};
+ghost use Rattle.port.specs.Step.{quiet, in-poll, interrupt-poll, offer-reply, set-status, front-panel, bus-suspend, out-packet, take-into, bus-reset, setup-of};
 ghost use Rattle.flatcalls.specs.Promise.{shutOf, onBytes, Leaves, Fills};
 
 #[no_mangle]
@@ -42,6 +43,13 @@ pub extern "C" fn tmc_bulk_in(u: &mut [u8; UNIT], b: &mut [u8]) -> Answer
     ensures { λ r. ⌜ Fills (onBytes (now (u .entry)) (quiet (in-poll (length (now (b .entry)))))) (now (b .entry)) (now (b .exit)) (now (u .exit)) r ⌝ }
 {
     bulk_in(u, b)
+}
+
+#[no_mangle]
+pub extern "C" fn tmc_interrupt_in(u: &mut [u8; UNIT], b: &mut [u8]) -> Answer
+    ensures { λ r. ⌜ Fills (onBytes (now (u .entry)) (quiet (interrupt-poll (length (now (b .entry)))))) (now (b .entry)) (now (b .exit)) (now (u .exit)) r ⌝ }
+{
+    interrupt_in(u, b)
 }
 
 #[no_mangle]

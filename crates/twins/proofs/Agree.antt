@@ -14,7 +14,7 @@ use Rattle.rules.specs.Answers.{DONE, only}
 use Rattle.rules.proofs.Choice.{pick-all, pick-both, decide-both, none-right}
 use Rattle.wire.specs.Header.{HEADER, ON, readHeader}
 use Rattle.wire.specs.Setup.{readSetup}
-use Rattle.wire.specs.declared.types.Endpoint.the-variants.{Out, In}
+use Rattle.wire.specs.declared.types.Endpoint.the-variants.{Out, In, Interrupt}
 use Rattle.wire.specs.declared.types.Header.{Header}
 use Rattle.wire.specs.declared.types.Header.the-variants.{Message, Request, Trigger}
 use Rattle.wire.specs.declared.types.Read.{Read}
@@ -28,10 +28,11 @@ use Rattle.port.specs.Remote.{localNow}
 use Rattle.port.specs.Answer.{Answer, Said, number, refuse}
 use Rattle.port.specs.Out.{plain, more, headerSays, outRules, outcome, absorbed, opened, accepted, planned, outPlan}
 use Rattle.port.specs.In.{Packet, fixed, header, started, toGo, gone, send, nextPacket, inRules, sends, poll}
+use Rattle.port.specs.Interrupt.{interruptRules, interruptPoll}
 use Rattle.port.specs.Rows.{Reaction, initiateAbortOut, initiateAbortIn, checkAbortIn, clearing, initiateClear, checkClear, clearFeatureOut, clearFeatureIn, answerRow, effected, reacted}
 use Rattle.port.specs.Device.{Device, Result, heldIn, unsentIn, heldOf, unsentOf}
-use Rattle.port.specs.Calls.{said, carriedOut, bulkOut, bulkIn, setupRules, asked, setupOutcome, answered, setup, takeRules, released, taking, take-message, offerRules, offered, offerPlan, withReply, offer, thermostatRules, statusSet, setStatus, returned, panel, busReset, suspend}
-use Rattle.port.specs.Step.{in-poll, offer-reply, set-status, front-panel, bus-suspend, Call, setup-packet, out-packet, take-into, bus-reset, quiet, quietly, soundly, step}
+use Rattle.port.specs.Calls.{said, carriedOut, bulkOut, bulkIn, interruptIn, setupRules, asked, setupOutcome, answered, setup, takeRules, released, taking, take-message, offerRules, offered, offerPlan, withReply, offer, thermostatRules, statusSet, setStatus, returned, panel, busReset, suspend}
+use Rattle.port.specs.Step.{in-poll, interrupt-poll, offer-reply, set-status, front-panel, bus-suspend, Call, setup-packet, out-packet, take-into, bus-reset, quiet, quietly, soundly, step}
 use Rattle.port.specs.Live.{Live, atFront, live, alive}
 use Rattle.port.specs.Laws.{Stored, LiveAgrees}
 use Rattle.port.specs.declared.types.OutMessage.{OutMessage}
@@ -47,7 +48,7 @@ use Rattle.port.specs.declared.types.Outcome.the-variants.{Keep, Halt, Data, Ac
 use Rattle.port.specs.declared.types.SetupOutcome.{SetupOutcome}
 use Rattle.port.specs.declared.types.SetupOutcome.the-variants.{Denies, Renews, Answers}
 use Rattle.port.specs.declared.types.Effect.{Effect}
-use Rattle.port.specs.declared.types.Effect.the-variants.{Stays, AbortsOut, AbortsIn, Clears, EndsSplit, SetsRen, GoesToLocal, LocksOut, ClearsHalt, SetsHalt}
+use Rattle.port.specs.declared.types.Effect.the-variants.{Stays, AbortsOut, AbortsIn, Clears, EndsSplit, SetsRen, GoesToLocal, LocksOut, ClearsHalt, SetsHalt, Queues}
 use Rattle.port.proofs.Soundness.{Sound, sound-of, sound-to}
 use Rattle.port.proofs.Ways.{outcome-ways}
 use Rattle.port.proofs.KeepsOut.{out-held}
@@ -123,6 +124,7 @@ module _ (u : Device) (stored : Stored u) (h : Sound (u .state)) where
   reacts-alike (SetFeature endpoint) = refl
   reacts-alike (GetStatus Out) = refl
   reacts-alike (GetStatus In) = refl
+  reacts-alike (GetStatus Interrupt) = refl
 
   abbrev States : Answer → State → State → Type 0
   States a st st′ = Saids (record { state = st; answer = a }) (record { state = st′; answer = a })
@@ -144,8 +146,11 @@ module _ (u : Device) (stored : Stored u) (h : Sound (u .state)) where
     where
       Ins : BulkIn → BulkIn → Type 0
       Ins b b′ = States a (withIn (u .state) b) (withIn (w .state) b′)
+  effect-agrees a (ClearsHalt Interrupt) = (refl, refl, whole-message, whole-reply)
   effect-agrees a (SetsHalt Out) = (refl, refl, broken-message ON, whole-reply)
   effect-agrees a (SetsHalt In) = (refl, refl, whole-message, whole-reply)
+  effect-agrees a (SetsHalt Interrupt) = (refl, refl, whole-message, whole-reply)
+  effect-agrees a (Queues tag) = (refl, refl, whole-message, whole-reply)
 
   answer-agrees : (x : SetupOutcome) → Same (answered u x) (answered w x)
   unfolding answered alive live
@@ -283,12 +288,13 @@ module _ (u : Device) (stored : Stored u) (h : Sound (u .state)) where
       (refl, refl, whole-message, front (u .reply) bytes (let l = stored .reply in omega arith) ∙ sym (front (w .reply) bytes (let l = alive-stored u stored h .reply in omega arith))))
 
   soundly-agrees : (c : Call) → Same (soundly u c) (soundly w c)
-  unfolding soundly quietly setStatus statusSet panel returned busReset suspend localNow alive live
+  unfolding soundly quietly interruptIn interruptPoll setStatus statusSet panel returned busReset suspend localNow alive live
   soundly-agrees (setup-packet p) = setup-agrees (p .packet) (p .room)
   soundly-agrees (out-packet s) = out-agrees s
   soundly-agrees (take-into room) = take-agrees room
   soundly-agrees bus-reset = (refl, refl, refl, refl)
   soundly-agrees (quiet (in-poll room)) = poll-agrees room
+  soundly-agrees (quiet (interrupt-poll room)) = behind (interruptRules (u .state) room) _ _ (refl, refl, whole-message, whole-reply)
   soundly-agrees (quiet (offer-reply bytes)) = offer-agrees bytes
   soundly-agrees (quiet (set-status status)) = behind (thermostatRules (u .state)) _ _ (refl, refl, whole-message, whole-reply)
   soundly-agrees (quiet front-panel) = behind (thermostatRules (u .state)) _ _ (refl, refl, whole-message, whole-reply)

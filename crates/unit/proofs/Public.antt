@@ -57,7 +57,7 @@ module _ (u : Unit) (c : Call) (r : Done) (meets : r ≡ doneOf (step (deviceOf 
   pub done-step : Mute c → IsStep (step (deviceOf u) c) r
   done-step m = is-step (step (deviceOf u) c) r meets (silent (deviceOf u) c m)
 
--- ** the calls that are lent a buffer: setup, bulk_in, take
+-- ** the calls that are lent a buffer: setup, bulk_in, interrupt_in, take
 
 module _ (u : Unit) (c : Call) (b b′ : List ℕ) (t : Told) (meets : Tells (step (deviceOf u) c) b b′ t) where
   pub told-unique : (b″ : List ℕ) (t′ : Told) → Tells (step (deviceOf u) c) b b″ t′ → (t ≡ t′) × (b′ ≡ b″)

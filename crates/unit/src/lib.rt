@@ -1,5 +1,6 @@
 // The unit and its calls.
 pub mod apart; // the state of a unit, and a state put back
+pub mod interrupt; // an Interrupt-IN poll
 pub mod message; // take
 pub mod packet; // a Bulk-OUT packet
 pub mod poll; // a Bulk-IN poll

@@ -9,7 +9,7 @@ ghost use Rattle.port.specs.Step.{set-status, front-panel, quiet, step};
 ghost use Rattle.unit.specs.Promise.{deviceOf, doneOf};
 
 impl Unit {
-    // The status byte that READ_STATUS_BYTE shows.
+    // The status byte; with bit 6 on it asks the host for service.
     pub fn set_status(self, status: u8) -> Done
         ensures { λ r. ⌜ r ≡ doneOf (step (deviceOf self) (quiet (set-status status))) ⌝ }
     {

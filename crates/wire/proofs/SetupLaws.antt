@@ -1,31 +1,63 @@
--- What a setup packet that matches a row says: a configuration value is 0 or 1.
+-- What a setup packet that matches a row says: a configuration value is 0 or 1, and the tag of READ_STATUS_BYTE is from 2 to 127.
 -- Assumes nothing.
 use Prim.Native.Nat.{ℕ, _≤_}
 use mathlib.Core.Path.{_≡_, refl, ap}
-use mathlib.Core.List.{List, []}
+use mathlib.Core.List.{List, [], _∷_}
+use mathlib.Core.Logic.{_⊎_, inl, inr, ⊎-elim}
 use mathlib.Core.Bool.{Bool, true}
 use native.Mathlib.Omega.{arith}
 use borrow.Author.Tests.{leb-true}
 use Rattle.rules.specs.Choice.{_=ᵇ_, _≤ᵇ_, _&_}
-use Rattle.rules.proofs.Choice.{pick-all, pick-both, all-of}
+use Rattle.rules.proofs.Choice.{pick-both, all-of}
 use Rattle.wire.specs.Bytes.{byte}
-use Rattle.wire.specs.Setup.{wValue, wIndex, wLength, fitting, matches, row, byEndpoint, toEndpoint, toInterface, toFeature, toStatus, toDevice, readSetup}
-use Rattle.wire.specs.declared.types.Endpoint.{Endpoint}
+use Rattle.wire.specs.Setup.{wValue, wIndex, wLength, fitting, matches, row, readSetup}
+use Rattle.wire.specs.When.{twoAt, Column, rows, Matches}
+use Rattle.wire.proofs.When.{setup-law}
 use Rattle.wire.specs.declared.types.Row.{Row}
-use Rattle.wire.specs.declared.types.Row.the-variants.{ClearFeature, SetFeature, GetStatus}
+use Rattle.wire.specs.declared.types.Row.the-variants.{InitiateAbortBulkOut, CheckAbortBulkOutStatus, InitiateAbortBulkIn, CheckAbortBulkInStatus, InitiateClear, CheckClearStatus, GetCapabilities, IndicatorPulse, ReadStatusByte, RenControl, GoToLocal, LocalLockout, ClearFeature, SetFeature, GetStatus}
 use Rattle.wire.specs.declared.types.Setup.{Setup}
 use Rattle.wire.specs.declared.types.Setup.the-variants.{Configure, Asks, NoRow}
 
-abbrev pub Configures : Setup → Type 0
-Configures (Configure value) = value ≤ 1
-Configures (Asks row) = Unit {0}
-Configures NoRow = Unit {0}
+abbrev pub Tagged : Row → Type 0
+Tagged (InitiateAbortBulkOut tag) = Unit {0}
+Tagged CheckAbortBulkOutStatus = Unit {0}
+Tagged (InitiateAbortBulkIn tag) = Unit {0}
+Tagged CheckAbortBulkInStatus = Unit {0}
+Tagged InitiateClear = Unit {0}
+Tagged CheckClearStatus = Unit {0}
+Tagged GetCapabilities = Unit {0}
+Tagged IndicatorPulse = Unit {0}
+Tagged (ReadStatusByte tag) = (2 ≤ tag) × (tag ≤ 127)
+Tagged (RenControl ren) = Unit {0}
+Tagged GoToLocal = Unit {0}
+Tagged LocalLockout = Unit {0}
+Tagged (ClearFeature endpoint) = Unit {0}
+Tagged (SetFeature endpoint) = Unit {0}
+Tagged (GetStatus endpoint) = Unit {0}
 
-asks : (fits : Bool) (asked : Row) → Configures (row fits (Asks asked))
-asks fits asked = pick-all Configures _ _ _ (λ _. tt) (λ _. tt)
+abbrev pub InRange : Setup → Type 0
+InRange (Configure value) = value ≤ 1
+InRange (Asks row) = Tagged row
+InRange NoRow = Unit {0}
 
-by-endpoint : (s : List ℕ) (size : ℕ) (asked : Endpoint → Row) → Configures (byEndpoint s size asked)
-by-endpoint s size asked = pick-all Configures _ _ _ (λ _. asks _ _) (λ _. pick-all Configures _ _ _ (λ _. asks _ _) (λ _. tt))
+-- every row of the table says so
+abbrev Ranged : List (Column × (ℕ → Setup)) → Type 0
+Ranged [] = Unit {0}
+Ranged (r ∷ rs) = ((v : ℕ) → r .0 .low ≤ v → v ≤ r .0 .high → InRange (r .1 v)) × Ranged rs
+
+ranged : Ranged rows
+ranged = (any, (any, (any, (any, (any, (any, (any, (any, ((λ v l h. (l, h)), (any, (any, (any, (any, (any, (any, (any, (any, (any, (any, (any, (any, ((λ v l h. h), tt))))))))))))))))))))))
+  where
+    any : {low high : ℕ} → (v : ℕ) → low ≤ v → v ≤ high → Unit {0}
+    any v l h = tt
+
+matched : (s : List ℕ) (rs : List (Column × (ℕ → Setup))) → Ranged rs → (x : Setup) → Matches s rs x → InRange x
+matched s [] h x m = absurd m
+matched s (r ∷ rs) h x (inl m) = rw (m .1) (h .0 (twoAt s 2) (m .0 .low) (m .0 .high))
+matched s (r ∷ rs) h x (inr m) = matched s rs (h .1) x m
+
+pub setup-ranged : (s : List ℕ) → InRange (readSetup s)
+setup-ranged s = ⊎-elim (matched s rows ranged (readSetup s)) (λ m. rw (m .0) tt) (setup-law s)
 
 -- a value that fits a range of bytes is its low byte
 low-byte : (s : List ℕ) (low high index size : ℕ) → high ≤ 255 → matches s low high index size ≡ true → byte s 2 ≡ wValue s
@@ -37,44 +69,3 @@ low-byte s low high index size b e =
 pub tag-row : (s : List ℕ) (low high index size : ℕ) (asked : ℕ → Setup) → high ≤ 255 → row (matches s low high index size) (asked (byte s 2)) ≡ row (matches s low high index size) (asked (wValue s))
 tag-row s low high index size asked b =
     pick-both (λ (x y : Setup). x ≡ y) (matches s low high index size) _ _ _ _ (λ e. ap asked (low-byte s low high index size b e)) (λ _. refl)
-
-endpoint-row : (s : List ℕ) → Configures (toEndpoint s)
-unfolding toEndpoint
-endpoint-row s =
-    pick-all Configures _ _ _ (λ _. asks _ _)
-    (λ _. pick-all Configures _ _ _ (λ _. asks _ _)
-    (λ _. pick-all Configures _ _ _ (λ _. asks _ _)
-    (λ _. pick-all Configures _ _ _ (λ _. asks _ _) (λ _. tt))))
-
-interface-row : (s : List ℕ) → Configures (toInterface s)
-unfolding toInterface
-interface-row s =
-    pick-all Configures _ _ _ (λ _. asks _ _)
-    (λ _. pick-all Configures _ _ _ (λ _. asks _ _)
-    (λ _. pick-all Configures _ _ _ (λ _. asks _ _)
-    (λ _. pick-all Configures _ _ _ (λ _. asks _ _)
-    (λ _. pick-all Configures _ _ _ (λ _. asks _ _)
-    (λ _. pick-all Configures _ _ _ (λ _. asks _ _)
-    (λ _. pick-all Configures _ _ _ (λ _. asks _ _)
-    (λ _. pick-all Configures _ _ _ (λ _. asks _ _) (λ _. tt))))))))
-
-feature-row : (s : List ℕ) → Configures (toFeature s)
-unfolding toFeature
-feature-row s = pick-all Configures _ _ _ (λ _. by-endpoint s 0 ClearFeature) (λ _. pick-all Configures _ _ _ (λ _. by-endpoint s 0 SetFeature) (λ _. tt))
-
-status-row : (s : List ℕ) → Configures (toStatus s)
-unfolding toStatus
-status-row s = pick-all Configures _ _ _ (λ _. by-endpoint s 2 GetStatus) (λ _. tt)
-
-device-row : (s : List ℕ) → Configures (toDevice s)
-unfolding toDevice fitting
-device-row s = pick-all Configures _ _ _ (λ _. pick-all Configures _ _ _ (λ e. leb-true (wValue s) 1 (all-of (0 ≤ᵇ wValue s & wValue s ≤ᵇ 1 & wIndex s =ᵇ 0 & wLength s =ᵇ 0 & []) e .1 .0)) (λ _. tt)) (λ _. tt)
-
-pub setup-configures : (s : List ℕ) → Configures (readSetup s)
-unfolding readSetup
-setup-configures s =
-    pick-all Configures _ _ _ (λ _. endpoint-row s)
-    (λ _. pick-all Configures _ _ _ (λ _. interface-row s)
-    (λ _. pick-all Configures _ _ _ (λ _. feature-row s)
-    (λ _. pick-all Configures _ _ _ (λ _. status-row s)
-    (λ _. pick-all Configures _ _ _ (λ _. device-row s) (λ _. tt)))))

@@ -25,7 +25,7 @@ use Rattle.wire.specs.declared.types.Header.the-variants.{Request}
 use Rattle.wire.specs.declared.types.Read.{Read}
 use Rattle.wire.specs.declared.types.Read.the-variants.{Good, Fault}
 use Rattle.wire.specs.declared.types.Endpoint.{Endpoint}
-use Rattle.wire.specs.declared.types.Endpoint.the-variants.{Out, In}
+use Rattle.wire.specs.declared.types.Endpoint.the-variants.{Out, In, Interrupt}
 use Rattle.wire.specs.declared.types.Row.{Row}
 use Rattle.wire.specs.declared.types.Row.the-variants.{ClearFeature, SetFeature, GetStatus}
 use Rattle.wire.specs.declared.types.Setup.{Setup}
@@ -231,10 +231,11 @@ module _ (s : List ℕ) where
         (λ e. part (λ y m. ⊎-elim (λ k. k) (λ k. absurd (none (λ k. not (k =ᵇ v)) (drop n rs) l (ap not e) y k)) (split n rs y m)) (of-take n rs) (f (eqb-true _ _ e)))
         (λ e. part (λ y m. ⊎-elim (λ k. absurd (none (λ k. k =ᵇ v) (take n rs) h e y k)) (λ k. k) (split n rs y m)) (of-drop n rs) g)
 
-  -- the rows of Bulk-OUT and of Bulk-IN
+  -- the rows of the three endpoints
   endpoints : (t q size : ℕ) (asked : Endpoint → Row) → at s 0 ≡ t → at s 1 ≡ q
-      → Right s (t ∣ q ∣ 0 to 0 ∣ 0x01 ∣ size ▹ (λ _. Asks (asked Out)) ∣ t ∣ q ∣ 0 to 0 ∣ 0x82 ∣ size ▹ (λ _. Asks (asked In)) ∣ []) (byEndpoint s size asked)
-  endpoints t q size asked e f = by-key index 1 0x01 tt tt (λ _. row-read tt e f) (by-key index 1 0x82 tt tt (λ _. row-read tt e f) end)
+      → Right s (t ∣ q ∣ 0 to 0 ∣ 0x01 ∣ size ▹ (λ _. Asks (asked Out)) ∣ t ∣ q ∣ 0 to 0 ∣ 0x82 ∣ size ▹ (λ _. Asks (asked In)) ∣ t ∣ q ∣ 0 to 0 ∣ 0x83 ∣ size ▹ (λ _. Asks (asked Interrupt)) ∣ []) (byEndpoint s size asked)
+  endpoints t q size asked e f =
+      by-key index 1 0x01 tt tt (λ _. row-read tt e f) (by-key index 1 0x82 tt tt (λ _. row-read tt e f) (by-key index 1 0x83 tt tt (λ _. row-read tt e f) end))
 
   pub setup-read : Right s rows (readSetup s)
   unfolding readSetup toEndpoint toInterface toFeature toStatus toDevice
@@ -253,11 +254,11 @@ module _ (s : List ℕ) where
       (by-key request 1 160 tt tt (row-read tt t)
       (by-key request 1 161 tt tt (row-read tt t)
       (by-key request 1 162 tt tt (row-read tt t) end))))))))
-      (by-key type 4 0x02 tt tt
-      (λ t. by-key request 2 1 tt tt (endpoints 0x02 1 0 ClearFeature t)
-      (by-key request 2 3 tt tt (endpoints 0x02 3 0 SetFeature t) end))
-      (by-key type 2 0x82 tt tt
-      (λ t. by-key request 2 0 tt tt (endpoints 0x82 0 2 GetStatus t) end)
+      (by-key type 6 0x02 tt tt
+      (λ t. by-key request 3 1 tt tt (endpoints 0x02 1 0 ClearFeature t)
+      (by-key request 3 3 tt tt (endpoints 0x02 3 0 SetFeature t) end))
+      (by-key type 3 0x82 tt tt
+      (λ t. by-key request 3 0 tt tt (endpoints 0x82 0 2 GetStatus t) end)
       (by-key type 1 0x00 tt tt
       (λ t. by-key request 1 9 tt tt (row-read tt t) end)
       end))))

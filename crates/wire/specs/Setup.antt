@@ -6,7 +6,7 @@ use mathlib.Core.List.{List, []}
 use Rattle.rules.specs.Choice.{_=ᵇ_, _≤ᵇ_, pick, _⇒_∣_, first, _&_, all}
 use Rattle.wire.specs.Bytes.{byte, number2}
 use Rattle.wire.specs.declared.types.Endpoint.{Endpoint}
-use Rattle.wire.specs.declared.types.Endpoint.the-variants.{Out, In}
+use Rattle.wire.specs.declared.types.Endpoint.the-variants.{Out, In, Interrupt}
 use Rattle.wire.specs.declared.types.Row.{Row}
 use Rattle.wire.specs.declared.types.Row.the-variants.{InitiateAbortBulkOut, CheckAbortBulkOutStatus, InitiateAbortBulkIn, CheckAbortBulkInStatus, InitiateClear, CheckClearStatus, GetCapabilities, IndicatorPulse, ReadStatusByte, RenControl, GoToLocal, LocalLockout, ClearFeature, SetFeature, GetStatus}
 use Rattle.wire.specs.declared.types.Setup.{Setup}
@@ -20,12 +20,15 @@ SETUP = 8
 abbrev pub CONTROL : ℕ
 CONTROL = 24
 
--- "with Bulk-OUT at endpoint 0x01 and Bulk-IN at 0x82"
+-- "with Bulk-OUT at endpoint 0x01 and Bulk-IN at 0x82"; 02, request 1: "endpoint 0x83"
 abbrev pub BULK-OUT : ℕ
 BULK-OUT = 0x01
 
 abbrev pub BULK-IN : ℕ
 BULK-IN = 0x82
+
+abbrev pub INTERRUPT-IN : ℕ
+INTERRUPT-IN = 0x83
 
 abbrev pub bmRequestType : List ℕ → ℕ
 bmRequestType s = byte s 0
@@ -52,16 +55,17 @@ matches s low high index size = fitting (wValue s) low high (wIndex s) index (wL
 abbrev pub row : Bool → Setup → Setup
 row fits what = pick fits what NoRow
 
--- "by endpoint": the row of Bulk-OUT, or of Bulk-IN
-abbrev pub ofEndpoint : List ℕ → ℕ → Row → Row → Setup
-ofEndpoint s size out inward =
+-- "by endpoint": the row of Bulk-OUT, of Bulk-IN, or of Interrupt-IN
+abbrev pub ofEndpoint : List ℕ → ℕ → Row → Row → Row → Setup
+ofEndpoint s size out inward interrupt =
     first
     (wIndex s =ᵇ BULK-OUT ⇒ row (matches s 0 0 BULK-OUT size) (Asks out) ∣
-    wIndex s =ᵇ BULK-IN ⇒ row (matches s 0 0 BULK-IN size) (Asks inward) ∣ [])
+    wIndex s =ᵇ BULK-IN ⇒ row (matches s 0 0 BULK-IN size) (Asks inward) ∣
+    wIndex s =ᵇ INTERRUPT-IN ⇒ row (matches s 0 0 INTERRUPT-IN size) (Asks interrupt) ∣ [])
     NoRow
 
 abbrev pub byEndpoint : List ℕ → ℕ → (Endpoint → Row) → Setup
-byEndpoint s size asked = ofEndpoint s size (asked Out) (asked In)
+byEndpoint s size asked = ofEndpoint s size (asked Out) (asked In) (asked Interrupt)
 
 -- "Class requests to .. an endpoint A2"
 unfoldable pub toEndpoint : List ℕ → Setup

@@ -8,7 +8,7 @@ use mathlib.Core.Logic.{_⊎_}
 use lib.ListN.{length, getD}
 use Rattle.rules.specs.When.{Not, _when_∣_, else-0}
 use Rattle.wire.specs.Header.{headerNumber}
-use Rattle.wire.specs.declared.types.Endpoint.the-variants.{Out, In}
+use Rattle.wire.specs.declared.types.Endpoint.the-variants.{Out, In, Interrupt}
 use Rattle.wire.specs.declared.types.Header.{Header}
 use Rattle.wire.specs.declared.types.Header.the-variants.{Message, Request, Trigger}
 use Rattle.wire.specs.declared.types.Read.{Read}
@@ -116,10 +116,13 @@ rows =
     0xA1 ∣ 162 ∣ 0 to 0 ∣ 0 ∣ 1 ▹ (λ _. Asks LocalLockout) ∣
     0x02 ∣ 1 ∣ 0 to 0 ∣ 0x01 ∣ 0 ▹ (λ _. Asks (ClearFeature Out)) ∣
     0x02 ∣ 1 ∣ 0 to 0 ∣ 0x82 ∣ 0 ▹ (λ _. Asks (ClearFeature In)) ∣
+    0x02 ∣ 1 ∣ 0 to 0 ∣ 0x83 ∣ 0 ▹ (λ _. Asks (ClearFeature Interrupt)) ∣
     0x02 ∣ 3 ∣ 0 to 0 ∣ 0x01 ∣ 0 ▹ (λ _. Asks (SetFeature Out)) ∣
     0x02 ∣ 3 ∣ 0 to 0 ∣ 0x82 ∣ 0 ▹ (λ _. Asks (SetFeature In)) ∣
+    0x02 ∣ 3 ∣ 0 to 0 ∣ 0x83 ∣ 0 ▹ (λ _. Asks (SetFeature Interrupt)) ∣
     0x82 ∣ 0 ∣ 0 to 0 ∣ 0x01 ∣ 2 ▹ (λ _. Asks (GetStatus Out)) ∣
     0x82 ∣ 0 ∣ 0 to 0 ∣ 0x82 ∣ 2 ▹ (λ _. Asks (GetStatus In)) ∣
+    0x82 ∣ 0 ∣ 0 to 0 ∣ 0x83 ∣ 2 ▹ (λ _. Asks (GetStatus Interrupt)) ∣
     0x00 ∣ 9 ∣ 0 to 1 ∣ 0 ∣ 0 ▹ (λ value. Configure value) ∣
     []
 

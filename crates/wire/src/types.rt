@@ -28,6 +28,7 @@ pub enum Read {
 pub enum Endpoint {
     Out,
     In,
+    Interrupt,
 }
 
 // The rows of document 01's table of setup packets that a configured unit serves.

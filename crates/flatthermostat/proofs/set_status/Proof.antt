@@ -14,4 +14,4 @@ set-status-spec =
     (λ c.
     let c7 = c .before .before .before .before .before .before .before in
     status-done (c7 .before .before .before .args .u .now) _ _ _ (c7 .before .thermostat-number .ensures) _ (c7 .if1 .left)
-    (rw (c .before .before .with-status .ensures, c .before .before .before .before .port-of .ensures) at (c .before .put-port .ensures)) (c .numbered2 .ensures)))
+    (rw (c .before .before .status-held .ensures, c .before .before .before .before .interrupt-of .ensures) at (c .before .put-interrupt .ensures)) (c .numbered2 .ensures)))

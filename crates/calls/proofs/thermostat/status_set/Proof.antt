@@ -12,5 +12,5 @@ status-set-spec =
     (λ c κs. search needs) (λ c κs. search needs)
     (λ c. c .given .ensures ∙ ap givenOf (status-refused _ _ (c .before .before .sound-gate .ensures) _ (c .before .if1 .taken)))
     (λ c κs. search needs) (λ c κs. search needs) (λ c κs. search needs)
-    (λ c. rw (c .given2 .ensures, c .before .with-port .ensures, c .before .before .with-status .ensures)
+    (λ c. rw (c .given2 .ensures, c .before .with-interrupt .ensures, c .before .before .status-held .ensures)
     (ap givenOf (status-done _ _ (c .before .before .before .before .before .sound-gate .ensures) _ (c .before .before .before .before .if1 .left)))))

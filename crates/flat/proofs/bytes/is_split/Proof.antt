@@ -8,4 +8,4 @@ is-split-spec =
     tie.close
     (tie.spec
     (λ c. search needs) (λ c. search picks depth 20) (λ c. search needs) (λ c. search picks depth 20) (λ c. search needs) (λ c. search picks depth 20)
-    (λ c. search needs) (λ c. search picks depth 20) (λ c κs. search needs) (λ c. search picks depth 20) (λ c. search picks depth 20))
+    (λ c κs. search needs) (λ c. search picks depth 20) (λ c. search picks depth 20))

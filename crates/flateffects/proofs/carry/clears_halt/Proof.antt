@@ -1,4 +1,4 @@
-use Rattle.flateffects.proofs.Effects.{clears-out, clears-in}
+use Rattle.flateffects.proofs.Effects.{clears-out, clears-in, clears-interrupt}
 use borrow.Author.Needs.{needs}
 use Rattle.flateffects.proofs.carry.clears_halt.Statement.{statement}
 use Rattle.flateffects.proofs.carry.clears_halt.Tie as tie
@@ -8,7 +8,7 @@ clears-halt-spec =
     tie.close
     (tie.spec
     (λ c. search needs) (λ c κs. search needs) (λ c κs. search needs) (λ c κs. search needs) (λ c κs. search needs) (λ c. search needs)
-    (λ c κs. search needs) (λ c κs. search needs) (λ c κs. search needs) (λ c. search needs)
+    (λ c κs. search needs) (λ c κs. search needs) (λ c κs. search needs) (λ c. search needs) (λ c κs. search needs) (λ c. search needs)
     (λ c.
     let c5 = c .before .before .before .before .before in
     rw (c5 .before .before .before .before .enum-told .given .1) (clears-out (c5 .before .before .before .before .before .before .before .args .u .now) _
@@ -17,4 +17,7 @@ clears-halt-spec =
     (λ c.
     let c5 = c .before .before .before .before .before in
     rw (c5 .before .before .enum-told2 .given .1) (clears-in (c5 .before .before .before .before .before .args .u .now) _
-    (rw (c .before .before .before .clear-feature-in .ensures, c5 .in-of .ensures) at (c .before .before .put-in .ensures)))))
+    (rw (c .before .before .before .clear-feature-in .ensures, c5 .in-of .ensures) at (c .before .before .put-in .ensures))))
+    (λ c. search needs)
+    (λ c. rw (c .before .before .before .before .enum-told3 .given .1)
+    (clears-interrupt (c .before .before .before .before .before .before .before .args .u .now) _ (c .before .before .put-interrupt-halted .ensures))))

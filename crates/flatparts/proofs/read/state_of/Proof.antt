@@ -8,5 +8,12 @@ unfolding stateIn
 state-of-spec =
     tie.close
     (tie.spec
-    (λ c κs. search needs) (λ c κs. search needs) (λ c κs. search needs) (λ c κs. search needs) (λ c κs. search needs)
-    (λ c. rw (c .remote-of .ensures, c .before .split-of .ensures, c .before .before .in-of .ensures, c .before .before .before .out-of .ensures, c .before .before .before .before .port-of .ensures)))
+    (λ c κs. search needs) (λ c κs. search needs) (λ c κs. search needs) (λ c κs. search needs) (λ c κs. search needs) (λ c κs. search needs)
+    (λ c. rw (
+      c .remote-of .ensures,
+      c .before .split-of .ensures,
+      c .before .before .interrupt-of .ensures,
+      c .before .before .before .in-of .ensures,
+      c .before .before .before .before .out-of .ensures,
+      c .before .before .before .before .before .port-of .ensures,
+    )))

@@ -9,4 +9,5 @@ by-endpoint-spec =
     (tie.spec
     (λ c κs. search needs) (λ c κs. search needs) (λ c κs. search needs) (λ c. rw (c .row .ensures, c .before .matches .ensures) (search picks depth 8))
     (λ c κs. search needs) (λ c κs. search needs) (λ c. rw (c .row2 .ensures, c .before .matches2 .ensures) (search picks depth 8))
+    (λ c κs. search needs) (λ c κs. search needs) (λ c. rw (c .row3 .ensures, c .before .matches3 .ensures) (search picks depth 8))
     (λ c. search picks depth 8))

@@ -9,5 +9,5 @@ unfolding sound
 sound-spec =
     tie.close
     (tie.spec
-    (λ c κs. search needs) (λ c κs. search needs) (λ c κs. search needs) (λ c κs. search needs) (λ c. search picks depth 20) (λ c. search picks depth 20)
-    (λ c. search picks depth 20) (λ c. search picks depth 20))
+    (λ c κs. search needs) (λ c κs. search needs) (λ c κs. search needs) (λ c κs. search needs) (λ c κs. search needs) (λ c. search picks depth 20)
+    (λ c. search picks depth 20) (λ c. search picks depth 20) (λ c. search picks depth 20) (λ c. search picks depth 20))

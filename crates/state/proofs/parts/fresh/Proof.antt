@@ -6,5 +6,5 @@ use Rattle.state.proofs.parts.fresh.Tie as tie
 pub fresh-spec : {M : Type 1} → statement M
 unfolding fresh
 fresh-spec =
-    tie.close (tie.spec (λ c κs. search needs) (λ c κs. search needs) (λ c κs. search needs)
-    (λ c. rw (c .empty-in .ensures, c .before .closed-in .ensures, c .before .before .empty-out .ensures)))
+    tie.close (tie.spec (λ c κs. search needs) (λ c κs. search needs) (λ c κs. search needs) (λ c κs. search needs)
+    (λ c. rw (c .empty-in .ensures, c .before .closed-in .ensures, c .before .before .empty-out .ensures, c .before .before .before .no-packet .ensures)))
