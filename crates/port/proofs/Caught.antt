@@ -148,9 +148,10 @@ bad =
     -- owed: no tag, something left over
     ∷ state fine resting (inward 0 1 0 0 3 0 0 0 0 0 0) (AbortIn 0)
     ∷ state fine resting (inward 0 1 0 0 3 1 1 0 0 0 0) (AbortIn 0)
-    -- Interrupt-IN: the halt's flag; a second byte and no first; a service request with bit 6 off, a status byte that was read with bit 6 on; first bytes that
-    -- are no packet's; bit 6 on with no packet waiting
+    -- Interrupt-IN: the halt's flag, with no packet and with one; a second byte and no first; a service request with bit 6 off, a status byte that was read with
+    -- bit 6 on; first bytes that are no packet's; bit 6 on with no packet waiting
     ∷ with-interrupt (interrupt 0 0 0 2)
+    ∷ with-interrupt (interrupt 0 0x81 0x50 2)
     ∷ with-interrupt (interrupt 0 0 1 0)
     ∷ with-interrupt (interrupt 0 0x81 0x10 0)
     ∷ with-interrupt (interrupt 0 0x82 0x50 0)
@@ -176,6 +177,6 @@ pub good-sound : map sound good ≡ replicate 20 true
 unfolding computed good
 good-sound = refl
 
-pub bad-caught : map sound bad ≡ replicate 60 false
+pub bad-caught : map sound bad ≡ replicate 61 false
 unfolding computed bad
 bad-caught = refl
