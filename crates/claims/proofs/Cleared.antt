@@ -38,7 +38,7 @@ use Rattle.port.proofs.KeepsOut.{fresh-sound}
 use Rattle.port.proofs.KeepsIn.{clears}
 use Rattle.port.proofs.Calls.{power-on-sound, power-on-stored, step-sound, keeps-sound, keeps-stored}
 use Rattle.port.proofs.Alive.{alive-sound}
-use Rattle.twins.proofs.Agree.{live-agrees}
+use Rattle.port_twins.proofs.Agree.{live-agrees}
 use Rattle.claims.specs.Fresh.{SET-CONFIGURATION-1, SET-FEATURE-OUT, halted, resumed, freshUnit}
 use Rattle.claims.specs.Claims.{CleanAfterFault, CleanAfterAnyFault}
 

@@ -2,16 +2,16 @@
 use crate::line::play;
 use libc::STDERR_FILENO;
 use libc::STDOUT_FILENO;
-use lines::asked::LONGEST;
-use lines::wrong::too_long;
 use port::types::FULL_SPEED;
 use port::types::Setting;
+use text_lines::asked::LONGEST;
+use text_lines::wrong::too_long;
+use text_put::put_byte;
+use text_words::words::Word;
+use text_words::words::find;
+use text_words::words::first_part;
+use text_words::words::part;
 use unit::types::Unit;
-use words::text::put_byte;
-use words::words::Word;
-use words::words::find;
-use words::words::first_part;
-use words::words::part;
 
 // The unit; how far the output is filled with answers, how far the lines in the input are played, and how many bytes of a line wait there
 // for its end. `is_long` says that the start of that line was too long to keep, `is_open` that there is more to read and write.

@@ -1,11 +1,11 @@
 // The calls that are lent a buffer, which is filled before and looked at after.
 use crate::played::Played;
-use answers::answer::FILL;
-use answers::answer::put_told;
+use text_answers::answer::FILL;
+use text_answers::answer::put_told;
+use text_words::numbers::BYTES;
+use text_words::numbers::start;
 use unit::types::Told;
 use unit::types::Unit;
-use words::numbers::BYTES;
-use words::numbers::start;
 
 // The first n bytes of a buffer, or all where there are fewer.
 fn first_lent(buffer: &mut [u8], n: usize) -> &mut [u8] {

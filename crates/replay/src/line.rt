@@ -11,11 +11,11 @@ use crate::carried::setup;
 use crate::carried::status;
 use crate::carried::take;
 use crate::played::Played;
-use lines::asked::Asked;
-use lines::asked::read_line;
-use lines::names::Name;
+use text_lines::asked::Asked;
+use text_lines::asked::read_line;
+use text_lines::names::Name;
+use text_words::words::part;
 use unit::types::Unit;
-use words::words::part;
 
 fn carried_out(
     unit: Unit,

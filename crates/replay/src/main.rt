@@ -12,7 +12,7 @@ use feed::kept;
 use feed::whole_lines;
 use feed::written;
 use libc::STDIN_FILENO;
-use words::words::first_part;
+use text_words::words::first_part;
 
 // The place behind n more bytes, and none past `most`.
 fn behind(at: usize, n: usize, most: usize) -> usize {

@@ -14,12 +14,12 @@ use Rattle.port.specs.Laws.{Stored, LeftAs}
 use Rattle.port.specs.declared.types.Setting.{Setting}
 use Rattle.port.proofs.KeepsOut.{cases}
 use Rattle.port.proofs.Calls.{power-on-sound, power-on-stored, unsound-refused, keeps-sound, keeps-stored, leaves-table}
-use Rattle.flat.specs.Flat.{isUnit, opened, shut}
-use Rattle.flat.proofs.Again.{opened-shut}
-use Rattle.flat.proofs.Parted.{opened-stored}
-use Rattle.flat.proofs.Narrow.{fits, unit-again}
-use Rattle.flatcalls.specs.Promise.{Lent, Left, shutOf, onBytes}
-use Rattle.flatcalls.proofs.Called.{on-unit, on-none, again}
+use Rattle.c_bytes.specs.Flat.{isUnit, opened, shut}
+use Rattle.c_bytes.proofs.Again.{opened-shut}
+use Rattle.c_bytes.proofs.Parted.{opened-stored}
+use Rattle.c_bytes.proofs.Narrow.{fits, unit-again}
+use Rattle.c_promise.specs.Promise.{Lent, Left, shutOf, onBytes}
+use Rattle.c_promise.proofs.Called.{on-unit, on-none, again}
 use Rattle.tewennos.specs.Run.{runBytes, afterBytes}
 
 -- ** one call on any bytes

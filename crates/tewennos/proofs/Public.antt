@@ -14,10 +14,10 @@ use Rattle.port.specs.Device.{Result, powerOn}
 use Rattle.port.specs.Step.{Call, step}
 use Rattle.port.specs.declared.types.Setting.{Setting}
 use Rattle.port.proofs.Silent.{power-silent, Mute, silent}
-use Rattle.flat.specs.Flat.{isUnit, opened}
-use Rattle.flatcalls.specs.Promise.{Left, shutOf, onBytes, answerOf, Leaves, Fills, IsStep, IsStepInto}
-use Rattle.flatcalls.specs.declared.types.Answer.{Answer}
-use Rattle.flatcalls.proofs.Called.{on-unit, on-none}
+use Rattle.c_bytes.specs.Flat.{isUnit, opened}
+use Rattle.c_promise.specs.Promise.{Left, shutOf, onBytes, answerOf, Leaves, Fills, IsStep, IsStepInto}
+use Rattle.c_promise.specs.declared.types.Answer.{Answer}
+use Rattle.c_promise.proofs.Called.{on-unit, on-none}
 
 -- ** any promise
 

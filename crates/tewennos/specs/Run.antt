@@ -4,7 +4,7 @@ use Prim.Native.Nat.{ℕ}
 use mathlib.Core.List.{List, [], _∷_}
 use Rattle.port.specs.Answer.{Answer as Said}
 use Rattle.port.specs.Step.{Call}
-use Rattle.flatcalls.specs.Promise.{onBytes}
+use Rattle.c_promise.specs.Promise.{onBytes}
 
 -- the answers of a run, and the bytes after it
 unfoldable pub runBytes : List ℕ → List Call → List Said

@@ -1,21 +1,21 @@
 // The port as C calls it: include/tewennos.h says what each function is for. A unit is bytes in C's memory, altered where they stand.
-use flat::places::UNIT;
-use flatbus::bus_reset;
-use flatbus::power_on;
-use flatbus::suspend;
-use flatcalls::types::Answer;
-use flatpackets::packet::bulk_out;
-use flatpolls::interrupt::interrupt_in;
-use flatpolls::poll::bulk_in;
-use flatsetup::setup::setup;
-use flatthermostat::offer;
-use flatthermostat::panel;
-use flatthermostat::set_status;
-use flatthermostat::take;
+use c_bus::bus_reset;
+use c_bus::power_on;
+use c_bus::suspend;
+use c_bytes::places::UNIT;
+use c_in::interrupt::interrupt_in;
+use c_in::poll::bulk_in;
+use c_out::packet::bulk_out;
+use c_promise::types::Answer;
+use c_setup::setup::setup;
+use c_thermostat::offer;
+use c_thermostat::panel;
+use c_thermostat::set_status;
+use c_thermostat::take;
 ghost use lib.ListN.{length};
 ghost use Rattle.port.specs.Device.{powerOn};
 ghost use Rattle.port.specs.Step.{quiet, in-poll, interrupt-poll, offer-reply, set-status, front-panel, bus-suspend, out-packet, take-into, bus-reset, setup-of};
-ghost use Rattle.flatcalls.specs.Promise.{shutOf, onBytes, Leaves, Fills};
+ghost use Rattle.c_promise.specs.Promise.{shutOf, onBytes, Leaves, Fills};
 
 #[no_mangle]
 pub extern "C" fn tmc_power_on(u: &mut [u8; UNIT], packet: u16) -> Answer

@@ -28,7 +28,7 @@ use Rattle.port.specs.declared.types.Given.{Given}
 use Rattle.port.specs.declared.types.SetupOutcome.{SetupOutcome}
 use Rattle.port.specs.declared.types.SetupOutcome.the-variants.{Denies, Renews, Answers}
 use Rattle.port.proofs.Calls.{unplanned, unstored}
-use Rattle.control.proofs.Serving.{answers-roomy}
+use Rattle.setup_step.proofs.Serving.{answers-roomy}
 use Rattle.unit.specs.Promise.{deviceOf, unitOf, doneOf, toldOf, Tells}
 use Rattle.unit.specs.declared.types.Unit.{Unit}
 use Rattle.unit.specs.declared.types.Done.{Done}

@@ -1,7 +1,7 @@
 // An Interrupt-IN poll.
 use crate::types::Told;
 use crate::types::Unit;
-use interrupts::poll::interrupt_step;
+use interrupt_step::poll::interrupt_step;
 ghost use mathlib.Core.Path.{_≡_};
 ghost use lib.ListN.{length};
 ghost use Rattle.port.specs.Step.{interrupt-poll, quiet, step};

@@ -1,7 +1,7 @@
 // A message is handed over.
 use crate::types::Told;
 use crate::types::Unit;
-use messages::take::take_step;
+use thermostat_step::take::take_step;
 ghost use mathlib.Core.Path.{_≡_};
 ghost use lib.ListN.{length};
 ghost use Rattle.port.specs.Step.{take-into, step};

@@ -1,7 +1,7 @@
 // A Bulk-OUT packet.
 use crate::types::Done;
 use crate::types::Unit;
-use packets::store::packet_step;
+use out_step::store::packet_step;
 ghost use mathlib.Core.Path.{_≡_};
 ghost use Rattle.port.specs.Step.{out-packet, step};
 ghost use Rattle.unit.specs.Promise.{deviceOf, doneOf};

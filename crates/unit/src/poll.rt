@@ -1,7 +1,7 @@
 // A Bulk-IN poll.
 use crate::types::Told;
 use crate::types::Unit;
-use polls::poll::poll_step;
+use in_step::poll::poll_step;
 ghost use mathlib.Core.Path.{_≡_};
 ghost use lib.ListN.{length};
 ghost use Rattle.port.specs.Step.{in-poll, quiet, step};

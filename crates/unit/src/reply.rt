@@ -1,7 +1,7 @@
 // A reply is offered.
 use crate::types::Done;
 use crate::types::Unit;
-use messages::offer::offer_step;
+use thermostat_step::offer::offer_step;
 ghost use mathlib.Core.Path.{_≡_};
 ghost use Rattle.port.specs.Step.{offer-reply, quiet, step};
 ghost use Rattle.unit.specs.Promise.{deviceOf, doneOf};

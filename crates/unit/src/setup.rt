@@ -1,11 +1,11 @@
 // A setup packet.
 use crate::types::Told;
 use crate::types::Unit;
-use control::serve::decided;
-use control::serve::row_step;
 use port::types::SetupOutcome;
 use rules::DONE;
 use rules::verdict::only;
+use setup_step::serve::decided;
+use setup_step::serve::row_step;
 ghost use mathlib.Core.Path.{_≡_};
 ghost use lib.ListN.{length};
 ghost use Rattle.port.specs.Step.{setup-of, step};

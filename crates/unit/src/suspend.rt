@@ -1,7 +1,7 @@
 // Suspend.
 use crate::types::Done;
 use crate::types::Unit;
-use calls::bus::suspended;
+use bus_step::suspended;
 ghost use mathlib.Core.Path.{_≡_};
 ghost use Rattle.port.specs.Step.{bus-suspend, quiet, step};
 ghost use Rattle.unit.specs.Promise.{deviceOf, doneOf};

@@ -1,8 +1,8 @@
 // The status byte and the front panel.
 use crate::types::Done;
 use crate::types::Unit;
-use calls::thermostat::returned;
-use calls::thermostat::status_set;
+use thermostat_step::settings::returned;
+use thermostat_step::settings::status_set;
 ghost use mathlib.Core.Path.{_≡_};
 ghost use Prim.Native.Nat.{ℕ};
 ghost use Rattle.port.specs.Step.{set-status, front-panel, quiet, step};

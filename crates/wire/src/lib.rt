@@ -1,5 +1,2 @@
-// Bytes and what they say, with no unit in sight.
-pub mod copies; // the one copy that a call makes
-pub mod header; // a Bulk-OUT header: what it says, or its first fault; a Bulk-IN header: its bytes
-pub mod numbers; // numbers of four bytes, and runs of zero bytes
+// Bytes and what they say, with no unit in sight: numbers, headers and setup packets, as definitions with their laws.
 pub mod types; // what a header and a setup packet can say

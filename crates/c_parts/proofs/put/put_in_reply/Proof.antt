@@ -1,0 +1,7 @@
+use borrow.Author.Needs.{needs}
+use Rattle.c_parts.proofs.put.put_in_reply.Statement.{statement}
+use Rattle.c_parts.proofs.put.put_in_reply.Tie as tie
+
+pub put-in-reply-spec : {M : Type 1} → statement M
+put-in-reply-spec = tie.close (tie.spec (λ c κs. search needs) (λ c. search needs) (λ c κs. search needs) (λ c. search needs)
+    (λ c. rw (c .before .before .before .before .before .in-reply-bytes .ensures) at (c .before .before .copy-in .ensures)))

@@ -1,6 +1,0 @@
-use borrow.Author.Needs.{needs}
-use Rattle.control.proofs.effects.owing.Statement.{statement}
-use Rattle.control.proofs.effects.owing.Tie as tie
-
-pub owing-spec : {M : Type 1} → statement M
-owing-spec = tie.close (tie.spec (λ c κs. search needs) (λ c κs. search needs) (λ c. rw (c .empty-in .ensures, c .before .owed-in .ensures)))

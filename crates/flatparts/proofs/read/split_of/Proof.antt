@@ -1,8 +1,0 @@
-use Rattle.flat.specs.Flat.{stateIn}
-use borrow.Author.Needs.{needs}
-use Rattle.flatparts.proofs.read.split_of.Statement.{statement}
-use Rattle.flatparts.proofs.read.split_of.Tie as tie
-
-pub split-of-spec : {M : Type 1} → statement M
-unfolding stateIn
-split-of-spec = tie.close (tie.spec (λ c κs. search needs) (λ c κs. search needs) (λ c. rw (c .split-in .ensures, c .before .part .ensures .0)))

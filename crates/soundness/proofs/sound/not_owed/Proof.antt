@@ -1,8 +1,0 @@
-use Rattle.port.specs.Sound.{notOwed}
-use Rattle.rules.proofs.Choice.{picks}
-use Rattle.soundness.proofs.sound.not_owed.Statement.{statement}
-use Rattle.soundness.proofs.sound.not_owed.Tie as tie
-
-pub not-owed-spec : {M : Type 1} → statement M
-unfolding notOwed
-not-owed-spec = tie.close (tie.spec (λ c. search picks depth 20) (λ c. search picks depth 20))

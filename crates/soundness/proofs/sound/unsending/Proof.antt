@@ -1,8 +1,0 @@
-use Rattle.port.specs.Sound.{unsending}
-use Rattle.rules.proofs.Choice.{picks}
-use Rattle.soundness.proofs.sound.unsending.Statement.{statement}
-use Rattle.soundness.proofs.sound.unsending.Tie as tie
-
-pub unsending-spec : {M : Type 1} → statement M
-unfolding unsending
-unsending-spec = tie.close (tie.spec (λ c. search picks depth 20) (λ c. search picks depth 20))

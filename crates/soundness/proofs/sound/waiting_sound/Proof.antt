@@ -1,9 +1,0 @@
-use Rattle.port.specs.Sound.{waitingSound}
-use Rattle.rules.proofs.Choice.{picks}
-use borrow.Author.Needs.{needs}
-use Rattle.soundness.proofs.sound.waiting_sound.Statement.{statement}
-use Rattle.soundness.proofs.sound.waiting_sound.Tie as tie
-
-pub waiting-sound-spec : {M : Type 1} → statement M
-unfolding waitingSound
-waiting-sound-spec = tie.close (tie.spec (λ c. search picks depth 20) (λ c κs. search needs) (λ c. search picks depth 20))

@@ -1,0 +1,3 @@
+// Words of a line, and the numbers and bytes in them. Nothing here knows a unit.
+pub mod numbers; // numbers and bytes in words
+pub mod words; // a line's words

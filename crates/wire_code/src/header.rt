@@ -1,0 +1,151 @@
+// Reading a Bulk-OUT header: what it says, or its first fault; and writing a Bulk-IN header.
+use crate::numbers::all_zero;
+use crate::numbers::bytes_of;
+use crate::numbers::le_u32;
+use rules::BAD_TAG;
+use rules::NOT_IN_FOURS;
+use rules::RESERVED;
+use rules::SHORT_HEADER;
+use rules::UNKNOWN_MSGID;
+use wire::types::Header;
+use wire::types::Read;
+ghost use mathlib.Core.Path.{_≡_};
+ghost use Prim.Native.Nat.{ℕ, _≤_};
+ghost use lib.ListN.{length};
+ghost use Rattle.wire.specs.Bytes.{into};
+ghost use Rattle.wire.specs.Header.{readMessage, readRequest, readTrigger, readHeader, requestEnd, inHeader};
+
+// Bytes of a header.
+pub const HEADER: usize = 12;
+
+// 1, DEV_DEP_MSG_OUT.
+fn read_message(s: &[u8]) -> Read
+    requires { ⌜ 12 ≤ length (now s) ⌝ }
+    ensures { λ r. ⌜ r ≡ readMessage (now (s .entry)) ⌝ }
+{
+    if s[3] != 0 {
+        return Read::Fault { number: RESERVED };
+    }
+    let size = le_u32(s, 4);
+    if size == 0 {
+        return Read::Fault { number: RESERVED };
+    }
+    let end = s[8];
+    if 1 < end {
+        return Read::Fault { number: RESERVED };
+    }
+    if all_zero(s, 9, HEADER) {
+        return Read::Good {
+            header: Header::Message {
+                tag: s[1],
+                size,
+                end,
+            },
+        };
+    }
+    Read::Fault { number: RESERVED }
+}
+
+// The two reserved bytes of a REQUEST, of which all else is read.
+fn request_end(s: &[u8], size: u32, enabled: u8, term: u8) -> Read
+    requires { ⌜ 12 ≤ length (now s) ⌝ }
+    ensures { λ r. ⌜ r ≡ requestEnd (now (s .entry)) size enabled term ⌝ }
+{
+    if all_zero(s, 10, HEADER) {
+        return Read::Good {
+            header: Header::Request {
+                tag: s[1],
+                size,
+                enabled,
+                term,
+            },
+        };
+    }
+    Read::Fault { number: RESERVED }
+}
+
+// 2, REQUEST_DEV_DEP_MSG_IN.
+fn read_request(s: &[u8]) -> Read
+    requires { ⌜ 12 ≤ length (now s) ⌝ }
+    ensures { λ r. ⌜ r ≡ readRequest (now (s .entry)) ⌝ }
+{
+    if s[3] != 0 {
+        return Read::Fault { number: RESERVED };
+    }
+    let size = le_u32(s, 4);
+    if size == 0 {
+        return Read::Fault { number: RESERVED };
+    }
+    let bits = s[8];
+    match bits {
+        0 => request_end(s, size, 0, 0),
+        2 => request_end(s, size, 1, s[9]),
+        _ => Read::Fault { number: RESERVED },
+    }
+}
+
+// 128, TRIGGER.
+fn read_trigger(s: &[u8]) -> Read
+    requires { ⌜ 12 ≤ length (now s) ⌝ }
+    ensures { λ r. ⌜ r ≡ readTrigger (now (s .entry)) ⌝ }
+{
+    if all_zero(s, 3, HEADER) {
+        return Read::Good {
+            header: Header::Trigger { tag: s[1] },
+        };
+    }
+    Read::Fault { number: RESERVED }
+}
+
+// The header at the start of a packet.
+pub fn read_header(s: &[u8]) -> Read
+    ensures { λ r. ⌜ r ≡ readHeader (now (s .entry)) ⌝ }
+{
+    let n = s.len();
+    if n % 4 != 0 {
+        return Read::Fault {
+            number: NOT_IN_FOURS,
+        };
+    }
+    if n < HEADER {
+        return Read::Fault {
+            number: SHORT_HEADER,
+        };
+    }
+    let tag = s[1];
+    if tag == 0 {
+        return Read::Fault { number: BAD_TAG };
+    }
+    if s[2] != 255 - tag {
+        return Read::Fault { number: BAD_TAG };
+    }
+    let id = s[0];
+    match id {
+        1 => read_message(s),
+        2 => read_request(s),
+        128 => read_trigger(s),
+        _ => Read::Fault {
+            number: UNKNOWN_MSGID,
+        },
+    }
+}
+
+// A Bulk-IN header in the first 12 bytes; every other byte stays.
+pub fn write_header(buf: &mut [u8], tag: u8, n: u32, attributes: u8)
+    requires { ⌜ 12 ≤ length (now buf) ⌝ }
+    ensures { λ _. ⌜ now (buf .exit) ≡ into (inHeader tag n attributes) (now (buf .entry)) ⌝ }
+{
+    let size = bytes_of(n);
+    buf[0] = 2;
+    buf[1] = tag;
+    buf[2] = 255 - tag;
+    buf[3] = 0;
+    buf[4] = size[0];
+    buf[5] = size[1];
+    buf[6] = size[2];
+    buf[7] = size[3];
+    buf[8] = attributes;
+    buf[9] = 0;
+    buf[10] = 0;
+    buf[11] = 0;
+}
