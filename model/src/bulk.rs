@@ -1,7 +1,7 @@
 //! Traffic as lines, and a program that gets each line only after its answer to the one before.
 
+use crate::compare::program::{Heard, Program};
 use crate::line::Call;
-use crate::program::{Heard, Program};
 use crate::traffic::Traffic;
 use std::io::{BufRead, ErrorKind, Write};
 use std::time::Duration;
@@ -12,8 +12,8 @@ const BLOCK: usize = 1_000;
 const PATIENCE: Duration = Duration::from_secs(30);
 
 /// Writes the first lines of the traffic that a comparison sends for the same seed. The last of them is `state` without
-/// a newline, as it is there.
-pub fn write_traffic(seed: u64, lines: u64, output: &mut impl Write) -> std::io::Result<()> {
+/// a newline, as it is there. Where the traffic ends early, since the model's unit is unsound, that is told.
+pub fn write_traffic(seed: u64, lines: u64, output: &mut impl Write) -> std::io::Result<Option<String>> {
     let mut traffic = Traffic::new(seed);
     let mut left = usize::try_from(lines - 1).unwrap_or(usize::MAX);
     while left > 0 {
@@ -22,9 +22,15 @@ pub fn write_traffic(seed: u64, lines: u64, output: &mut impl Write) -> std::io:
             writeln!(output, "{}", exchange.line)?;
         }
         left -= block.len().min(left);
+        if traffic.unsound.is_some() {
+            break;
+        }
     }
-    write!(output, "{}", traffic.last().line)?;
-    output.flush()
+    if let Some(last) = traffic.last() {
+        write!(output, "{}", last.line)?;
+    }
+    output.flush()?;
+    Ok(traffic.unsound_text(seed))
 }
 
 /// Gives the lines of `input` to a program, each after its answer to the one before, and writes all that it answers. A
@@ -79,8 +85,12 @@ fn missing(output: &mut impl Write, line: u64, why: &str) -> std::io::Result<boo
 }
 
 /// A reader that went away is no fault of the traffic.
-pub fn unless_closed(result: std::io::Result<()>) -> Result<bool, String> {
+pub fn unless_closed(result: std::io::Result<Option<String>>) -> Result<bool, String> {
     match result {
+        Ok(Some(unsound)) => {
+            eprint!("model: {unsound}");
+            Ok(false)
+        }
         Err(error) if error.kind() != ErrorKind::BrokenPipe => {
             Err(format!("standard output broke: {error}. Run it again with room to write."))
         }
@@ -94,7 +104,7 @@ mod tests {
 
     fn traffic(seed: u64, lines: u64) -> String {
         let mut output = Vec::new();
-        write_traffic(seed, lines, &mut output).unwrap();
+        assert_eq!(write_traffic(seed, lines, &mut output).unwrap(), None);
         String::from_utf8(output).unwrap()
     }
 

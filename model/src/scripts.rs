@@ -24,7 +24,13 @@ pub fn play(name: &str, text: &str) -> Played {
                 }
                 continue;
             }
-            Ok(Some(call)) => player.play(&call).line(),
+            Ok(Some(call)) => match player.play(&call) {
+                Ok(answered) => answered.line(),
+                Err(unsound) => {
+                    played.differences.push(unsound.print(&place));
+                    return played;
+                }
+            },
             Err(wrong) => format!("? {wrong}"),
         };
         played.calls += 1;

@@ -4,10 +4,9 @@
 //! once and looks at the model's unit and at the coverage to choose the next one, so that it comes to rare cells often.
 //! The other program gets the same lines later, in blocks.
 
-use crate::calls::REFUSED_SIZES;
 use crate::cells::{in_column, interrupt_column, out_column, split_column, Kind, KINDS};
 use crate::coverage::Coverage;
-use crate::line::{Call, Player, LONGEST_LINE};
+use crate::line::{Call, Player, Unsound, LONGEST_LINE};
 use crate::random::Random;
 use crate::unit::{Number, CONTROL_BUFFER, STORE};
 
@@ -23,9 +22,13 @@ pub struct Traffic {
     pub player: Player,
     pub coverage: Coverage,
     exchanges: Vec<Exchange>,
+    /// How many lines there were, the one that left the unit unsound with them.
+    pub lines: u64,
+    /// A line that left the model's unit unsound. The traffic ends before it: no more lines are sent.
+    pub unsound: Option<Unsound>,
     /// The tag of the header before.
     pub tag: u8,
-    scenes_left: usize,
+    pub scenes_left: usize,
     /// Once in how many calls of a scene a stray one comes before it; 0 for never.
     pub unrest: usize,
 }
@@ -37,28 +40,41 @@ impl Traffic {
             player: Player::new(None),
             coverage: Coverage::new(),
             exchanges: Vec::new(),
+            lines: 0,
+            unsound: None,
             tag: 0,
             scenes_left: 3,
             unrest: 12,
         }
     }
 
-    /// The next lines, at least `lines` of them.
+    /// The next lines, at least `lines` of them unless the traffic ends.
     pub fn block(&mut self, lines: usize) -> Vec<Exchange> {
-        while self.exchanges.len() < lines {
+        while self.exchanges.len() < lines && self.unsound.is_none() {
             self.scene();
         }
         std::mem::take(&mut self.exchanges)
     }
 
-    /// A last `state`.
-    pub fn last(&mut self) -> Exchange {
+    /// Which line of this seed's traffic left the model's unit unsound, and how.
+    pub fn unsound_text(&self, seed: u64) -> Option<String> {
+        let place = format!("line {} of the traffic of seed {seed}", self.lines);
+        self.unsound.as_ref().map(|unsound| unsound.print(&place))
+    }
+
+    /// A last `state`; None where the traffic has ended.
+    pub fn last(&mut self) -> Option<Exchange> {
         self.line("state".to_string());
-        self.exchanges.pop().expect("a line was sent")
+        self.exchanges.pop()
     }
 
     /// Sends a line as it stands.
     pub fn line(&mut self, line: String) -> Option<Number> {
+        // What is left of a scene gets refusals, from a unit that stays where it was.
+        if self.unsound.is_some() {
+            return Some(Number::Unconfigured);
+        }
+        self.lines += 1;
         let read = Call::read(line.as_bytes());
         self.coverage.observe_line(line.as_bytes(), &read);
         let (answer, number) = match read {
@@ -66,10 +82,17 @@ impl Traffic {
             Err(wrong) => (Some(format!("? {wrong}")), None),
             Ok(Some(call)) => {
                 let before = self.player.unit.clone();
-                let outcome = self.player.play(&call);
-                assert!(self.player.unit.sound(), "{:?} after {line}", self.player.unit);
-                self.coverage.observe(&before, &call, &outcome, &self.player.unit);
-                (Some(outcome.line()), Some(outcome.number))
+                match self.player.play(&call) {
+                    Ok(answered) => {
+                        self.coverage.observe(&before, &call, &answered, &self.player.unit);
+                        (Some(answered.line()), Some(answered.number))
+                    }
+                    Err(unsound) => {
+                        self.player.unit = before;
+                        self.unsound = Some(unsound);
+                        return Some(Number::Unconfigured);
+                    }
+                }
             }
         };
         self.exchanges.push(Exchange { line, answer });
@@ -151,7 +174,7 @@ impl Traffic {
         }
         let unit = &self.player.unit;
         let (split, out, into) = (split_column(unit), out_column(unit), in_column(unit));
-        let interrupt = interrupt_column(unit);
+        let interrupt = interrupt_column(unit, self.coverage.taken_back);
         let start = self.random.below(KINDS.len());
         let mut best = (u64::MAX, Kind::In);
         for step in 0..KINDS.len() {
@@ -172,55 +195,6 @@ impl Traffic {
             }
         }
         best.1
-    }
-
-    pub fn life(&mut self) {
-        self.scenes_left = self.random.between(5, 40);
-        self.unrest = self.random.pick(&[0, 0, 60, 20, 8]);
-        let size = match self.random.below(20) {
-            0 => self.random.pick(&REFUSED_SIZES),
-            1..=6 => 64,
-            _ => 512,
-        };
-        self.say(Call::Power(size));
-        if self.random.once_in(8) {
-            self.unconfigured_scene();
-        }
-    }
-
-    pub fn scene(&mut self) {
-        if self.scenes_left == 0 {
-            self.life();
-            return;
-        }
-        self.scenes_left -= 1;
-        if !self.random.once_in(6) {
-            self.tidy();
-        }
-        match self.random.below(108) {
-            0..=6 => self.host_scene(),
-            7..=14 => self.message_sizes_scene(),
-            15..=22 => self.reply_sizes_scene(),
-            23..=26 => self.near_full_scene(),
-            27..=33 => self.header_faults_scene(),
-            34..=39 => self.header_edges_scene(),
-            40..=45 => self.later_faults_scene(),
-            46..=48 => self.reserved_scene(),
-            49..=53 => self.abort_out_scene(),
-            54..=59 => self.abort_in_scene(),
-            60..=64 => self.clear_scene(),
-            65..=73 => self.points_scene(),
-            74..=75 => self.interrupted_scene(),
-            76..=79 => self.setup_rows_scene(),
-            80..=84 => self.remote_scene(),
-            85..=89 => self.term_char_scene(),
-            90..=93 => self.thermostat_scene(),
-            94 => self.lines_scene(),
-            95..=96 => self.unconfigured_scene(),
-            97..=99 => self.wander_scene(),
-            100..=103 => self.interrupt_scene(),
-            _ => self.interrupt_events_scene(),
-        }
     }
 }
 
@@ -243,6 +217,7 @@ mod tests {
             let mut traffic = Traffic::new(seed);
             while traffic.coverage.calls < ENOUGH_CALLS {
                 traffic.block(1_000);
+                assert_eq!(traffic.unsound_text(seed), None);
             }
             assert_eq!(traffic.coverage.empty(), Vec::<String>::new(), "seed {seed}");
             assert_eq!(traffic.coverage.impossible(), Vec::<String>::new(), "seed {seed}");

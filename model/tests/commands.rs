@@ -71,6 +71,15 @@ fn the_model_is_the_same_as_itself() {
     let told = text(&output.stdout);
     assert_eq!(output.status.code(), Some(0), "{told}");
     assert!(told.contains("every answer is the same"), "{told}");
+    // A line for each of 14 grids, and every cell only where it is asked for.
+    assert!(told.starts_with("CELLS\n") && told.lines().count() < 30, "{told}");
+    assert!(told.contains("\n  call x split state "), "{told}");
+    let output = model(&["compare", "--calls", "20000", "--cells", "--program", MODEL, "play"]);
+    let cells = text(&output.stdout);
+    assert!(cells.starts_with("COVERAGE") && cells.lines().count() > 400, "{cells}");
+    let summary =
+        |text: &str| text.split("CELLS\n").nth(1).unwrap().lines().take(15).map(str::to_string).collect::<Vec<_>>();
+    assert_eq!(summary(&cells), summary(&told));
     let output = model(&["compare", "--program", MODEL, "play", "--seed", "9", "--calls", "500", "--seconds", "60"]);
     assert!(text(&output.stdout).contains("seed 9"), "{}", text(&output.stdout));
 }
@@ -86,7 +95,12 @@ fn each_fault_is_found() {
         assert!(told.contains("DIFFERENCE") && told.contains("This script shows it"), "{fault}: {told}");
     }
     let output = model(&["faults"]);
-    assert_eq!(output.status.code(), Some(0), "{}", text(&output.stdout));
+    let told = text(&output.stdout);
+    assert_eq!(output.status.code(), Some(0), "{told}");
+    assert_eq!(told.matches(": found in line ").count(), 5, "{told}");
+    assert!(!told.contains("#= "), "{told}");
+    let told = text(&model(&["faults", "--scripts"]).stdout);
+    assert_eq!(told.matches("\npower ").count(), 5, "{told}");
 }
 
 /// A program that is no unit at all, and one that ends at once.
@@ -149,28 +163,62 @@ fn one_by_one_tells_what_a_program_answers() {
     assert_eq!(output.stdout, b"# \xff\nstate \xfe\n");
 }
 
+/// Each ends with the usage line of its command, before a program is started: there is none of that name.
 #[test]
 fn what_is_wrong_with_a_command_is_said() {
+    let none = "./no-such-program";
+    for (words, hint) in [
+        (&["play", "--fault", "none"][..], "is no fault"),
+        (&["play", "--fault"], "has no name behind it"),
+        (&["play", "x"], "takes no words"),
+        (&["scripts"], "has no files"),
+        (&["compare"], "has no program"),
+        (&["compare", "--program"], "has no program behind it"),
+        (&["compare", "--program", "--seed", "1"], "has no program behind it"),
+        (&["compare", "--seed", "3x", "--program", none], "--seed `3x` is no whole number"),
+        (&["compare", "--seed", "-3", "--program", none], "--seed `-3` is no whole number"),
+        (&["compare", "--seed", "", "--program", none], "--seed `` is no whole number"),
+        (&["compare", "--seed", "--program", none], "--seed has no number behind it"),
+        (&["compare", "--seed", "4294967296", "--program", none], "--seed 4294967296 is too large"),
+        (&["compare", "--program", none, "--seed"], "--seed has no number behind it"),
+        (&["compare", "--program", none, "--seed", "3x"], "--seed `3x` is no whole number"),
+        (&["compare", "--program", none, "--calls", "-1", "--seed", "3"], "--calls `-1` is no whole number"),
+        (&["compare", "--calls", "many", "--program", none], "--calls `many` is no whole number"),
+        (&["compare", "--calls", "0", "--program", none], "--calls 0 is too small"),
+        (&["compare", "--calls", "10000000001", "--program", none], "is too large"),
+        (&["compare", "--calls", "99999999999999999999", "--program", none], "is too large"),
+        (&["compare", "--seconds", "0", "--program", none], "--seconds 0 is too small"),
+        (&["compare", "--seconds", "1.5", "--program", none], "--seconds `1.5` is no whole number"),
+        (&["compare", "--seconds", "604801", "--program", none], "is too large"),
+        (&["compare", "--seed", "1", "--program", none, "--seed", "2"], "is given twice"),
+        (&["compare", "--pace", "1", "--program", none], "is no option here"),
+        (&["faults", "now"], "is no option here"),
+        (&["faults", "--seed"], "has no number behind it"),
+        (&["faults", "--seed", "3x"], "--seed `3x` is no whole number"),
+        (&["faults", "--seed", "-3"], "--seed `-3` is no whole number"),
+        (&["traffic", "--calls", "5"], "is no option here"),
+        (&["traffic", "--lines", "0"], "--lines 0 is too small"),
+        (&["traffic", "--lines", "5k"], "--lines `5k` is no whole number"),
+        (&["traffic", "--lines", "100000001"], "is too large"),
+        (&["traffic", "--seed", "-3"], "--seed `-3` is no whole number"),
+        (&["traffic", "--seed"], "--seed has no number behind it"),
+        (&["one-by-one"], "takes --program"),
+        (&["one-by-one", "--program"], "has no program behind it"),
+    ] {
+        let output = model(words);
+        let told = text(&output.stderr);
+        assert_eq!(output.status.code(), Some(2), "{words:?}: {told}");
+        assert!(output.stdout.is_empty(), "{words:?}");
+        assert!(told.contains(hint), "{words:?}: {told}");
+        let usage = told.lines().last().unwrap_or_default();
+        assert!(usage.starts_with(&format!("usage: model {} ", words[0])), "{words:?}: {told}");
+    }
     for (words, hint) in [
         (&[][..], "Use one of these"),
         (&["frobnicate"], "is no command"),
-        (&["play", "--fault", "none"], "is no fault"),
-        (&["play", "x"], "--fault"),
-        (&["scripts"], "needs files"),
         (&["scripts", "no-such-file.script"], "cannot be read"),
-        (&["compare"], "--program"),
-        (&["compare", "--program"], "needs a program"),
-        (&["compare", "--calls", "many", "--program", "cat"], "whole number"),
-        (&["compare", "--calls", "0", "--program", "cat"], "says nothing"),
-        (&["compare", "--pace", "1", "--program", "cat"], "no option"),
-        (&["compare", "--program", "./no-such-program"], "cannot be started"),
-        (&["faults", "now"], "--seed"),
-        (&["traffic", "--calls", "5"], "no option"),
-        (&["traffic", "--lines", "0"], "says nothing"),
-        (&["traffic", "--seed"], "whole number"),
-        (&["one-by-one"], "--program"),
-        (&["one-by-one", "--program"], "--program"),
-        (&["one-by-one", "--program", "./no-such-program"], "cannot be started"),
+        (&["compare", "--program", none], "cannot be started"),
+        (&["one-by-one", "--program", none], "cannot be started"),
     ] {
         let output = model(words);
         assert_eq!(output.status.code(), Some(2), "{words:?}");

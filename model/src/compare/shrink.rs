@@ -93,7 +93,9 @@ mod tests {
     fn differs(lines: &[String], fault: Fault) -> Option<Difference> {
         let (mut model, mut program) = (Player::new(None), Player::new(Some(fault)));
         lines.iter().enumerate().find_map(|(index, line)| {
-            let answers = (model.answer(line.as_bytes()), program.answer(line.as_bytes()));
+            let told =
+                |player: &mut Player| player.answer(line.as_bytes()).unwrap_or_else(|_| panic!("unsound: {line}"));
+            let answers = (told(&mut model), told(&mut program));
             (answers.0 != answers.1).then(|| Difference {
                 index,
                 line: line.clone(),
@@ -110,6 +112,7 @@ mod tests {
             let mut lines: Vec<String> = Vec::new();
             while differs(&lines, fault).is_none() {
                 assert!(lines.len() < 100_000, "{} is not found", fault.name());
+                assert_eq!(traffic.unsound_text(1), None);
                 lines.extend(traffic.block(5_000).into_iter().map(|exchange| exchange.line));
             }
             let deadline = Instant::now() + Duration::from_secs(60);

@@ -1,10 +1,10 @@
-//! Tables of counts, and ranges of values, for the coverage of a comparison.
+//! Tables of counts.
 
 use std::fmt::Write;
 
 /// A table of counts.
 pub struct Grid {
-    title: &'static str,
+    pub title: &'static str,
     rows: Vec<&'static str>,
     columns: Vec<&'static str>,
     allowed: Vec<bool>,
@@ -42,6 +42,13 @@ impl Grid {
         let mut cells: Vec<usize> = cells.collect();
         cells.sort_by_key(|&cell| self.counts[cell]);
         cells.into_iter().map(|cell| (cell / self.columns.len(), cell % self.columns.len())).collect()
+    }
+
+    /// How many cells are allowed, how often the least touched of them was touched, and which it is.
+    pub fn least(&self) -> (usize, u64, String) {
+        let cells = self.rarest();
+        let (row, column) = cells[0];
+        (cells.len(), self.count(row, column), format!("{} x {}", self.rows[row], self.columns[column]))
     }
 
     pub fn empty(&self) -> Vec<String> {
@@ -91,44 +98,5 @@ impl Grid {
             }
             text.push('\n');
         }
-    }
-}
-
-/// A range of values, each of which is to be seen.
-pub struct Sweep {
-    pub title: String,
-    seen: Vec<bool>,
-}
-
-impl Sweep {
-    pub fn new(title: &str, values: usize) -> Sweep {
-        Sweep { title: title.to_string(), seen: vec![false; values] }
-    }
-
-    /// A range for each packet size, 64 and 512.
-    pub fn for_each_size(title: &str, values: [usize; 2]) -> [Sweep; 2] {
-        [Sweep::new(&format!("{title}, P = 64"), values[0]), Sweep::new(&format!("{title}, P = 512"), values[1])]
-    }
-
-    /// The first value not seen, from `start` on and round; `start` itself where all were seen.
-    pub fn missing(&self, start: usize) -> usize {
-        let values = self.seen.len();
-        (0..values).map(|step| (start + step) % values).find(|&value| !self.seen[value]).unwrap_or(start % values)
-    }
-
-    pub fn see(&mut self, value: usize) {
-        self.seen[value] = true;
-    }
-
-    pub fn len(&self) -> usize {
-        self.seen.len()
-    }
-
-    pub fn complete(&self) -> bool {
-        self.seen.iter().all(|&seen| seen)
-    }
-
-    pub fn count(&self) -> usize {
-        self.seen.iter().filter(|&&seen| seen).count()
     }
 }
