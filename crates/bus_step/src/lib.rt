@@ -10,13 +10,14 @@ ghost use mathlib.Core.Path.{_≡_};
 ghost use mathlib.Core.List.{[]};
 ghost use Prim.Native.Nat.{ℕ};
 ghost use Rattle.rules.specs.Choice.{pick};
+ghost use Rattle.rules.specs.Answers.{UNSOUND};
 ghost use Rattle.port.specs.Sound.{sound};
 ghost use Rattle.port.specs.Remote.{localNow};
 ghost use Rattle.port.specs.Answer.{says, refuse};
 ghost use Rattle.port.specs.Given.{givenOf};
 
 pub fn suspended(st: State) -> Given
-    ensures { λ r. ⌜ r ≡ givenOf (pick (sound st) (says (localNow st) []) (refuse st 1)) ⌝ }
+    ensures { λ r. ⌜ r ≡ givenOf (pick (sound st) (says (localNow st) []) (refuse st UNSOUND)) ⌝ }
 {
     if sound(st) {
         return given(local_now(st), DONE);

@@ -6,7 +6,7 @@ use c_parts::read::is_sound;
 use c_parts::read::port_of;
 use c_promise::answer::numbered;
 use c_promise::make::make;
-use c_promise::types::Answer;
+use c_promise::types::TmcAnswer;
 use port::types::FULL_SPEED;
 use port::types::Remote;
 use port::types::Setting;
@@ -19,10 +19,10 @@ ghost use mathlib.Core.Path.{_≡_};
 ghost use mathlib.Core.List.{[]};
 ghost use Rattle.port.specs.Device.{powerOn};
 ghost use Rattle.port.specs.Step.{quiet, bus-reset, bus-suspend};
-ghost use Rattle.c_promise.specs.Promise.{IsNumber, shutOf, onBytes, Leaves};
+ghost use Rattle.c_promise.specs.Promise.{IsNumber, resultBytes, onBytes, Returns};
 
-pub fn power_on(u: &mut [u8; UNIT], packet: u16) -> Answer
-    ensures { λ r. ⌜ Leaves (shutOf (powerOn (record { packet = packet }))) (now (u .exit)) r ⌝ }
+pub fn power_on(u: &mut [u8; UNIT], packet: u16) -> TmcAnswer
+    ensures { λ r. ⌜ Returns (resultBytes (powerOn (record { packet = packet }))) (now (u .exit)) r ⌝ }
 {
     if is_size(packet) {
         make(u, Setting { packet }, 0);
@@ -42,8 +42,8 @@ fn bus_number(u: &[u8; UNIT]) -> u8
     UNSOUND
 }
 
-pub fn bus_reset(u: &mut [u8; UNIT]) -> Answer
-    ensures { λ r. ⌜ Leaves (onBytes (now (u .entry)) bus-reset) (now (u .exit)) r ⌝ }
+pub fn bus_reset(u: &mut [u8; UNIT]) -> TmcAnswer
+    ensures { λ r. ⌜ Returns (onBytes (now (u .entry)) bus-reset) (now (u .exit)) r ⌝ }
 {
     let number = bus_number(u);
     if number != 0 {
@@ -54,8 +54,8 @@ pub fn bus_reset(u: &mut [u8; UNIT]) -> Answer
     numbered(DONE)
 }
 
-pub fn suspend(u: &mut [u8; UNIT]) -> Answer
-    ensures { λ r. ⌜ Leaves (onBytes (now (u .entry)) (quiet bus-suspend)) (now (u .exit)) r ⌝ }
+pub fn suspend(u: &mut [u8; UNIT]) -> TmcAnswer
+    ensures { λ r. ⌜ Returns (onBytes (now (u .entry)) (quiet bus-suspend)) (now (u .exit)) r ⌝ }
 {
     let number = bus_number(u);
     if number != 0 {

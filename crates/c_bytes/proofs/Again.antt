@@ -24,8 +24,13 @@ use Rattle.port.specs.declared.types.Split.the-variants.{None, AbortOut, AbortI
 use Rattle.port.specs.declared.types.Remote.{Remote}
 use Rattle.port.specs.declared.types.Remote.the-variants.{Locs, Rems, Lwls, Rwls}
 use Rattle.port.specs.declared.types.State.{State}
-use Rattle.c_bytes.proofs.Parted.{message-shut, reply-shut, part-shut, byte-shut, part-small, part-long, from, spelt, parted}
-use Rattle.c_bytes.specs.Flat.{PORT, OUT-MESSAGE, OUT-TRANSFER, IN-REPLY, IN-TRANSFER, INTERRUPT, SPLIT, REPLY-AT, PORT-AT, OUT-MESSAGE-AT, OUT-HALTED-AT, OUT-TRANSFER-AT, OUT-RECENT-AT, IN-REPLY-AT, IN-TRANSFER-AT, IN-HALTED-AT, IN-RECENT-AT, INTERRUPT-AT, SPLIT-AT, REMOTE-AT, UNIT, splitOf, kindOf, countOf, remoteOf, placeOf, portIn, outMessageIn, outTransferIn, inReplyIn, inTransferIn, interruptIn, splitIn, portBytes, outMessageBytes, outTransferBytes, inReplyBytes, inTransferBytes, interruptBytes, splitBytes, part, stateIn, opened, bytesOf, shut, isAbort, isSplit, isUnit, Bytes}
+use Rattle.c_bytes.proofs.Parted.{message-of-bytes, reply-of-bytes, part-of-bytes, byte-of-bytes, part-small, part-long, from, spelt, parted}
+use Rattle.c_bytes.specs.Layout.{PORT, OUT-MESSAGE, OUT-TRANSFER, IN-REPLY, IN-TRANSFER, INTERRUPT, SPLIT, REPLY-AT, PORT-AT, OUT-MESSAGE-AT}
+use Rattle.c_bytes.specs.Layout.{OUT-HALTED-AT, OUT-TRANSFER-AT, OUT-RECENT-AT, IN-REPLY-AT, IN-TRANSFER-AT, IN-HALTED-AT, IN-RECENT-AT}
+use Rattle.c_bytes.specs.Layout.{INTERRUPT-AT, SPLIT-AT, REMOTE-AT, UNIT, splitOf, splitNumber, countOf, remoteOf, remoteNumber}
+use Rattle.c_bytes.specs.Layout.{portIn, outMessageIn, outTransferIn, inReplyIn, inTransferIn, interruptIn, splitIn, portBytes, outMessageBytes}
+use Rattle.c_bytes.specs.Layout.{outTransferBytes, inReplyBytes, inTransferBytes, interruptBytes, splitBytes, part, stateIn, unitIn}
+use Rattle.c_bytes.specs.Layout.{stateBytes, unitBytes, isAbort, isSplit, isUnit, Bytes}
 use Rattle.c_bytes.specs.Sides.{STATE}
 
 -- ** there and back
@@ -52,8 +57,8 @@ in-reply-there r h k = rw (again (r .at) h, again (r .unsent) k)
 pub in-transfer-there : (t : InTransfer) → Narrow16 (t .asked) → Narrow16 (t .left) → Narrow16 (t .sent) → inTransferIn (inTransferBytes t) ≡ t
 in-transfer-there t h k l = rw (again (t .asked) h, again (t .left) k, again (t .sent) l)
 
-split-again : (s : Split) → splitOf (countOf s) (kindOf s) ≡ s
-unfolding splitOf kindOf countOf
+split-again : (s : Split) → splitOf (countOf s) (splitNumber s) ≡ s
+unfolding splitOf splitNumber countOf
 split-again None = refl
 split-again (AbortOut count) = refl
 split-again (AbortIn count) = refl
@@ -62,8 +67,8 @@ split-again Clear = refl
 pub split-there : (s : Split) → Narrow16 (countOf s) → splitIn (splitBytes s) ≡ s
 split-there s h = rw (again (countOf s) h) (split-again s)
 
-pub remote-there : (r : Remote) → remoteOf (placeOf r) ≡ r
-unfolding remoteOf placeOf
+pub remote-there : (r : Remote) → remoteOf (remoteNumber r) ≡ r
+unfolding remoteOf remoteNumber
 remote-there Locs = refl
 remote-there Rems = refl
 remote-there Lwls = refl
@@ -87,13 +92,13 @@ pub record Fits (d : Device) : Type 0 where
   pub stored : Stored d
   pub narrow : Narrow (d .state)
 
-pub state-there : (d : Device) → Fits d → stateIn (shut d) ≡ d .state
-unfolding stateIn bytesOf
+pub state-there : (d : Device) → Fits d → stateIn (unitBytes d) ≡ d .state
+unfolding stateIn stateBytes
 state-there d fit =
     let st = d .state in
     let n = fit .narrow in
-    let at = part-shut d (fit .stored) in
-    let one = byte-shut d (fit .stored) in
+    let at = part-of-bytes d (fit .stored) in
+    let one = byte-of-bytes d (fit .stored) in
     rw (
       at PORT-AT PORT (omega arith),
       at OUT-MESSAGE-AT OUT-MESSAGE (omega arith),
@@ -116,9 +121,9 @@ state-there d fit =
       remote-there (st .remote),
     )
 
-pub opened-shut : (d : Device) → Fits d → opened (shut d) ≡ d
-unfolding opened
-opened-shut d h = λ i. record { message = message-shut d (h .stored) i; reply = reply-shut d (h .stored) i; state = state-there d h i }
+pub unit-in-its-bytes : (d : Device) → Fits d → unitIn (unitBytes d) ≡ d
+unfolding unitIn
+unit-in-its-bytes d h = λ i. record { message = message-of-bytes d (h .stored) i; reply = reply-of-bytes d (h .stored) i; state = state-there d h i }
 
 -- ** back and there
 
@@ -157,7 +162,7 @@ pub interrupt-back : Back INTERRUPT (λ f. interruptBytes (interruptIn f))
 interrupt-back f e h = whole INTERRUPT f e
 
 split-again-bytes : (count k : ℕ) → k ≤ 3 → (isAbort k or count =ᵇ 0) ≡ true → splitBytes (splitOf count k) ≡ bytes2 count ++ k ∷ []
-unfolding splitOf kindOf countOf _or_
+unfolding splitOf splitNumber countOf _or_
 split-again-bytes count zero h e = rw (eqb-true count 0 e)
 split-again-bytes count (suc zero) h e = refl
 split-again-bytes count (suc (suc zero)) h e = refl
@@ -171,17 +176,17 @@ split-back f e h is =
     ∙ (λ i. two f h 0 i ++ from f 2 (SPLIT - 2))
     ∙ whole SPLIT f e
 
-pub remote-back : (p : ℕ) → p ≤ 3 → placeOf (remoteOf p) ≡ p
-unfolding remoteOf placeOf
+pub remote-back : (p : ℕ) → p ≤ 3 → remoteNumber (remoteOf p) ≡ p
+unfolding remoteOf remoteNumber
 remote-back zero h = refl
 remote-back (suc zero) h = refl
 remote-back (suc (suc zero)) h = refl
 remote-back (suc (suc (suc zero))) h = refl
 remote-back (suc (suc (suc (suc p)))) h = absurd (omega arith)
 
-pub shut-opened : (u : List ℕ) → length u ≡ UNIT → Bytes u → isUnit u ≡ true → shut (opened u) ≡ u
-unfolding opened shut stateIn bytesOf isUnit
-shut-opened u long small is =
+pub bytes-of-its-unit : (u : List ℕ) → length u ≡ UNIT → Bytes u → isUnit u ≡ true → unitBytes (unitIn u) ≡ u
+unfolding unitIn unitBytes stateIn stateBytes isUnit
+bytes-of-its-unit u long small is =
     let t = all-of (byte u REMOTE-AT ≤ᵇ 3 & isSplit (part SPLIT-AT SPLIT u) & []) is in
     ap (λ (f : List ℕ). part 0 STORE u ++ part REPLY-AT STORE u ++ f)
     ((λ i.

@@ -22,16 +22,13 @@ use Rattle.port.specs.declared.types.Split.the-variants.{None, AbortOut, AbortI
 use Rattle.port.specs.declared.types.Remote.{Remote}
 use Rattle.port.specs.declared.types.Remote.the-variants.{Locs, Rems, Lwls, Rwls}
 use Rattle.port.specs.declared.types.State.{State}
+use Rattle.port.proofs.Sizes.{size-of}
 use Rattle.port.proofs.Soundness.{OutSound, Phase, is-closed, is-asked, is-sending, is-owed, SplitSound, sound-of}
-use Rattle.c_bytes.specs.Flat.{SPLIT, REMOTE-AT, SPLIT-AT, kindOf, countOf, placeOf, splitBytes, part, bytesOf, isSplit, isUnit, shut}
+use Rattle.c_bytes.specs.Layout.{SPLIT, REMOTE-AT, SPLIT-AT, splitNumber, countOf, remoteNumber, splitBytes, part, stateBytes, isSplit, isUnit, unitBytes}
 use Rattle.c_bytes.proofs.Again.{Narrow16, Narrow, Fits}
-use Rattle.c_bytes.proofs.Parted.{part-shut, byte-shut}
+use Rattle.c_bytes.proofs.Parted.{part-of-bytes, byte-of-bytes}
 
 -- ** a sound state
-
-size-narrow : (p : ℕ) → isSize p ≡ true → Narrow16 p
-size-narrow p e =
-    ⊎-elim (λ t. let q = eqb-true p FULL-SPEED t in omega arith) (λ t. let q = eqb-true p HIGH-SPEED t in omega arith) (either (p =ᵇ FULL-SPEED) (p =ᵇ HIGH-SPEED) e)
 
 out-narrow : (o : BulkOut) → OutSound o → Narrow16 (o .message .held) × Narrow16 (o .transfer .left) × Narrow16 (o .transfer .got)
 out-narrow o (inl h) =
@@ -64,7 +61,7 @@ narrow st e =
     let p = phase-narrow _ _ (h .inward .phase) in
     let reply = h .inward .reply in
     record {
-      packet = size-narrow _ (h .port .size);
+      packet = size-of _ (h .port .size) .most;
       held = o .0;
       left = o .1;
       got = o .2;
@@ -81,24 +78,24 @@ fits d stored e = record { stored = stored; narrow = narrow (d .state) e }
 
 -- ** bytes that were shut
 
-place-kept : (r : Remote) → (placeOf r ≤ᵇ 3) ≡ true
-unfolding placeOf
+place-kept : (r : Remote) → (remoteNumber r ≤ᵇ 3) ≡ true
+unfolding remoteNumber
 place-kept Locs = refl
 place-kept Rems = refl
 place-kept Lwls = refl
 place-kept Rwls = refl
 
 split-kept : (s : Split) → isSplit (splitBytes s) ≡ true
-unfolding kindOf countOf _or_ pick
+unfolding splitNumber countOf _or_ pick
 split-kept None = refl
 split-kept (AbortOut count) = refl
 split-kept (AbortIn count) = refl
 split-kept Clear = refl
 
-pub unit-again : (d : Device) → Stored d → isUnit (shut d) ≡ true
-unfolding isUnit bytesOf
+pub unit-again : (d : Device) → Stored d → isUnit (unitBytes d) ≡ true
+unfolding isUnit stateBytes
 unit-again d h =
-    of-all (byte (shut d) REMOTE-AT ≤ᵇ 3 & isSplit (part SPLIT-AT SPLIT (shut d)) & []) (
-      ap (λ (p : ℕ). p ≤ᵇ 3) (byte-shut d h REMOTE-AT (omega arith)) ∙ place-kept (d .state .remote),
-      (ap isSplit (part-shut d h SPLIT-AT SPLIT (omega arith)) ∙ split-kept (d .state .split), tt),
+    of-all (byte (unitBytes d) REMOTE-AT ≤ᵇ 3 & isSplit (part SPLIT-AT SPLIT (unitBytes d)) & []) (
+      ap (λ (p : ℕ). p ≤ᵇ 3) (byte-of-bytes d h REMOTE-AT (omega arith)) ∙ place-kept (d .state .remote),
+      (ap isSplit (part-of-bytes d h SPLIT-AT SPLIT (omega arith)) ∙ split-kept (d .state .split), tt),
     )

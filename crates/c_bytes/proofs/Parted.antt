@@ -11,11 +11,11 @@ use Rattle.port.specs.Parts.{STORE}
 use Rattle.port.specs.Device.{Device}
 use Rattle.port.specs.Laws.{Stored}
 use Rattle.port.specs.declared.types.State.{State}
-use Rattle.c_bytes.specs.Flat.{REPLY-AT, PORT-AT, UNIT, part, bytesOf, opened, shut, Bytes}
+use Rattle.c_bytes.specs.Layout.{REPLY-AT, PORT-AT, UNIT, part, stateBytes, unitIn, unitBytes, Bytes}
 use Rattle.c_bytes.specs.Sides.{STATE}
 
-pub bytes-long : (st : State) → length (bytesOf st) ≡ STATE
-unfolding bytesOf
+pub bytes-long : (st : State) → length (stateBytes st) ≡ STATE
+unfolding stateBytes
 bytes-long st = refl
 
 -- a unit shut, by what stands where
@@ -23,24 +23,24 @@ module _ (d : Device) (h : Stored d) where
   pub stores-long : length (d .message ++ d .reply) ≡ PORT-AT
   stores-long = simp length-append (omega (arith, h .message, h .reply))
 
-  pub message-shut : part 0 STORE (shut d) ≡ d .message
-  unfolding shut
-  message-shut = rw (append-assoc (d .message) (d .reply)) (take-at (d .message) _ STORE (h .message))
+  pub message-of-bytes : part 0 STORE (unitBytes d) ≡ d .message
+  unfolding unitBytes
+  message-of-bytes = rw (append-assoc (d .message) (d .reply)) (take-at (d .message) _ STORE (h .message))
 
-  pub reply-shut : part REPLY-AT STORE (shut d) ≡ d .reply
-  unfolding shut
-  reply-shut = rw (append-assoc (d .message) (d .reply), drop-at (d .message) _ STORE (h .message)) (take-at (d .reply) _ STORE (h .reply))
+  pub reply-of-bytes : part REPLY-AT STORE (unitBytes d) ≡ d .reply
+  unfolding unitBytes
+  reply-of-bytes = rw (append-assoc (d .message) (d .reply), drop-at (d .message) _ STORE (h .message)) (take-at (d .reply) _ STORE (h .reply))
 
   k : (at : ℕ) → PORT-AT ≤ at → at ≡ length (d .message ++ d .reply) + (at - PORT-AT)
   k at past = omega (arith, stores-long)
 
-  pub part-shut : (at n : ℕ) → PORT-AT ≤ at → part at n (shut d) ≡ part (at - PORT-AT) n (bytesOf (d .state))
-  unfolding shut
-  part-shut at n past = ap (λ (j : ℕ). take n (drop j (shut d))) (k at past) ∙ ap (take n) (drop-append-add (d .message ++ d .reply) _ (at - PORT-AT))
+  pub part-of-bytes : (at n : ℕ) → PORT-AT ≤ at → part at n (unitBytes d) ≡ part (at - PORT-AT) n (stateBytes (d .state))
+  unfolding unitBytes
+  part-of-bytes at n past = ap (λ (j : ℕ). take n (drop j (unitBytes d))) (k at past) ∙ ap (take n) (drop-append-add (d .message ++ d .reply) _ (at - PORT-AT))
 
-  pub byte-shut : (at : ℕ) → PORT-AT ≤ at → byte (shut d) at ≡ byte (bytesOf (d .state)) (at - PORT-AT)
-  unfolding shut
-  byte-shut at past = ap (byte (shut d)) (k at past) ∙ getD-append-add (d .message ++ d .reply) _ (at - PORT-AT) 0
+  pub byte-of-bytes : (at : ℕ) → PORT-AT ≤ at → byte (unitBytes d) at ≡ byte (stateBytes (d .state)) (at - PORT-AT)
+  unfolding unitBytes
+  byte-of-bytes at past = ap (byte (unitBytes d)) (k at past) ∙ getD-append-add (d .message ++ d .reply) _ (at - PORT-AT) 0
 
 take-small : (n : ℕ) (u : List ℕ) → ((i : ℕ) → byte u i < 256) → (i : ℕ) → byte (take n u) i < 256
 take-small zero u h i = omega arith
@@ -63,9 +63,9 @@ pub spelt : (at n : ℕ) (u : List ℕ) → at + n ≤ length u → part at n u 
 spelt at zero u h = refl
 spelt at (suc n) u h = ap (take (suc n)) (drop-cons u at 0 (omega arith)) ∙ ap (λ (g : List ℕ). byte u at ∷ g) (spelt (suc at) n u (omega arith))
 
-pub opened-stored : (u : List ℕ) → UNIT ≤ length u → Stored (opened u)
-unfolding opened
-opened-stored u long = record { message = part-long 0 STORE u (omega arith); reply = part-long REPLY-AT STORE u (omega arith) }
+pub unit-stored : (u : List ℕ) → UNIT ≤ length u → Stored (unitIn u)
+unfolding unitIn
+unit-stored u long = record { message = part-long 0 STORE u (omega arith); reply = part-long REPLY-AT STORE u (omega arith) }
 
 -- the bytes of a unit, in three
 pub parted : (u : List ℕ) → length u ≡ UNIT → part 0 STORE u ++ part REPLY-AT STORE u ++ part PORT-AT STATE u ≡ u

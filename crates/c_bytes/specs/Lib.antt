@@ -1,3 +1,3 @@
 -- The unit as C holds it.
-pub mod Flat
+pub mod Layout
 pub mod Sides

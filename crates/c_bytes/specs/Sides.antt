@@ -4,7 +4,8 @@ use Prim.Native.Nat.{ℕ, _+_}
 use mathlib.Core.List.{List, [], _∷_, _++_}
 use Rattle.port.specs.declared.types.BulkOut.{BulkOut}
 use Rattle.port.specs.declared.types.BulkIn.{BulkIn}
-use Rattle.c_bytes.specs.Flat.{PORT, OUT-MESSAGE, OUT-TRANSFER, IN-REPLY, IN-TRANSFER, INTERRUPT, SPLIT, outMessageBytes, outTransferBytes, inReplyBytes, inTransferBytes}
+use Rattle.c_bytes.specs.Layout.{PORT, OUT-MESSAGE, OUT-TRANSFER, IN-REPLY, IN-TRANSFER, INTERRUPT, SPLIT}
+use Rattle.c_bytes.specs.Layout.{outMessageBytes, outTransferBytes, inReplyBytes, inTransferBytes}
 
 -- how many bytes they have
 abbrev pub OUT : ℕ

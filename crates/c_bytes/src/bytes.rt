@@ -16,7 +16,9 @@ ghost use mathlib.Core.Path.{_≡_};
 ghost use Prim.Native.Nat.{ℕ, _+_, _/_, _%_, _≤_};
 ghost use lib.ListN.{length};
 ghost use Rattle.wire.specs.Bytes.{number2};
-ghost use Rattle.c_bytes.specs.Flat.{PORT, OUT-MESSAGE, OUT-TRANSFER, IN-REPLY, IN-TRANSFER, INTERRUPT, SPLIT, placeOf, portBytes, outMessageBytes, outTransferBytes, inReplyBytes, inTransferBytes, interruptBytes, splitBytes, portIn, outMessageIn, outTransferIn, inReplyIn, inTransferIn, interruptIn, splitIn, isSplit};
+ghost use Rattle.c_bytes.specs.Layout.{PORT, OUT-MESSAGE, OUT-TRANSFER, IN-REPLY, IN-TRANSFER, INTERRUPT, SPLIT, remoteNumber, portBytes};
+ghost use Rattle.c_bytes.specs.Layout.{outMessageBytes, outTransferBytes, inReplyBytes, inTransferBytes, interruptBytes, splitBytes, portIn};
+ghost use Rattle.c_bytes.specs.Layout.{outMessageIn, outTransferIn, inReplyIn, inTransferIn, interruptIn, splitIn, isSplit};
 
 pub const PORT: usize = 4;
 
@@ -175,8 +177,8 @@ pub fn port_bytes(p: Port) -> [u8; PORT]
     ]
 }
 
-pub fn place_of(r: Remote) -> u8
-    ensures { λ k. ⌜ k ≡ placeOf r ⌝ }
+pub fn remote_number(r: Remote) -> u8
+    ensures { λ k. ⌜ k ≡ remoteNumber r ⌝ }
 {
     match r {
         Remote::Locs => 0,

@@ -5,7 +5,7 @@ use c_parts::read::interrupt_of;
 use c_parts::read::is_sound;
 use c_parts::read::state_of;
 use c_promise::answer::numbered;
-use c_promise::types::Answer;
+use c_promise::types::TmcAnswer;
 use interrupt_step::part::polled;
 use interrupt_step::poll::interrupt_gate;
 use interrupt_step::poll::write_notify;
@@ -17,7 +17,7 @@ ghost use Prim.Native.Nat.{ℕ};
 ghost use lib.ListN.{length};
 ghost use Rattle.port.specs.Interrupt.{interruptRules};
 ghost use Rattle.port.specs.Step.{quiet, interrupt-poll};
-ghost use Rattle.c_bytes.specs.Flat.{stateIn};
+ghost use Rattle.c_bytes.specs.Layout.{stateIn};
 ghost use Rattle.c_promise.specs.Promise.{IsNumber, onBytes, Fills};
 
 // The first rule that applies to a poll into `room` bytes, or 0.
@@ -30,7 +30,7 @@ fn interrupt_number(u: &[u8; UNIT], room: usize) -> u8
     UNSOUND
 }
 
-pub fn interrupt_in(u: &mut [u8; UNIT], b: &mut [u8]) -> Answer
+pub fn interrupt_in(u: &mut [u8; UNIT], b: &mut [u8]) -> TmcAnswer
     ensures { λ r. ⌜ Fills (onBytes (now (u .entry)) (quiet (interrupt-poll (length (now (b .entry)))))) (now (b .entry)) (now (b .exit)) (now (u .exit)) r ⌝ }
 {
     let number = interrupt_number(u, b.len());
@@ -42,7 +42,7 @@ pub fn interrupt_in(u: &mut [u8; UNIT], b: &mut [u8]) -> Answer
     write_notify(b, packet);
     let after = polled(i);
     put_interrupt(u, after);
-    Answer {
+    TmcAnswer {
         verdict: only(DONE),
         len: 2,
     }

@@ -9,7 +9,7 @@ use c_parts::read::is_sound;
 use c_parts::read::port_of;
 use c_parts::read::state_of;
 use c_promise::answer::numbered;
-use c_promise::types::Answer;
+use c_promise::types::TmcAnswer;
 use in_step::poll::in_gate;
 use in_step::poll::next_packet;
 use in_step::types::InPacket;
@@ -26,7 +26,7 @@ ghost use Rattle.port.specs.Device.{unsentIn};
 ghost use Rattle.port.specs.Step.{quiet, in-poll};
 ghost use Rattle.in_step.specs.Poll.{CanPoll, Cuts};
 ghost use Rattle.port.specs.Parts.{STORE};
-ghost use Rattle.c_bytes.specs.Flat.{UNIT, REPLY-AT, part, stateIn};
+ghost use Rattle.c_bytes.specs.Layout.{UNIT, REPLY-AT, part, stateIn};
 ghost use Rattle.c_promise.specs.Promise.{IsNumber, onBytes, Fills};
 
 // The first rule that applies to a poll into `room` bytes, or 0.
@@ -49,7 +49,7 @@ fn cut(u: &[u8], p: usize, side: BulkIn, b: &mut [u8]) -> InPacket
     next_packet(&u[a..e], p, side, b)
 }
 
-pub fn bulk_in(u: &mut [u8; UNIT], b: &mut [u8]) -> Answer
+pub fn bulk_in(u: &mut [u8; UNIT], b: &mut [u8]) -> TmcAnswer
     ensures { λ r. ⌜ Fills (onBytes (now (u .entry)) (quiet (in-poll (length (now (b .entry)))))) (now (b .entry)) (now (b .exit)) (now (u .exit)) r ⌝ }
 {
     let number = poll_number(u, b.len());
@@ -62,7 +62,7 @@ pub fn bulk_in(u: &mut [u8; UNIT], b: &mut [u8]) -> Answer
     let after = packet.side;
     put_in_reply(u, after.reply);
     put_in_transfer(u, after.transfer);
-    Answer {
+    TmcAnswer {
         verdict: only(DONE),
         len: packet.len,
     }

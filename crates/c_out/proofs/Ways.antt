@@ -14,10 +14,10 @@ use Rattle.wire.specs.declared.types.Header.{Header}
 use Rattle.wire.specs.declared.types.Header.the-variants.{Message, Request, Trigger}
 use Rattle.port.specs.Parts.{STORE, portOf, outOf, askedIn, holding, withOut, withRemote, broken}
 use Rattle.port.specs.Remote.{headed, withRenOn}
-use Rattle.port.specs.Answer.{number}
+use Rattle.port.specs.Answer.{numbered}
 use Rattle.port.specs.Out.{completed, continued, absorbed, opened as opens, accepted, planned, outPlan, CanAbsorb}
 use Rattle.port.specs.Device.{withState}
-use Rattle.port.specs.Calls.{carriedOut, bulkOut}
+use Rattle.port.specs.Calls.{withMessage, bulkOut}
 use Rattle.port.specs.Step.{Call, out-packet, soundly}
 use Rattle.port.specs.declared.types.BulkOut.{BulkOut}
 use Rattle.port.specs.declared.types.State.{State}
@@ -25,11 +25,12 @@ use Rattle.port.specs.declared.types.Outcome.{Outcome}
 use Rattle.port.specs.declared.types.Outcome.the-variants.{Keep, Halt, Data, Accept}
 use Rattle.port.proofs.Calls.{unplanned}
 use Rattle.out_step.proofs.Packets.{Carried, outcome-carried}
-use Rattle.c_bytes.specs.Flat.{OUT-MESSAGE, OUT-TRANSFER, IN-TRANSFER, REMOTE-AT, OUT-MESSAGE-AT, OUT-TRANSFER-AT, OUT-RECENT-AT, IN-TRANSFER-AT, IN-RECENT-AT, outMessageBytes, outTransferBytes, inTransferBytes, placeOf, stateIn, opened}
+use Rattle.c_bytes.specs.Layout.{OUT-MESSAGE, OUT-TRANSFER, IN-TRANSFER, REMOTE-AT, OUT-MESSAGE-AT, OUT-TRANSFER-AT, OUT-RECENT-AT, IN-TRANSFER-AT}
+use Rattle.c_bytes.specs.Layout.{IN-RECENT-AT, outMessageBytes, outTransferBytes, inTransferBytes, remoteNumber, stateIn, unitIn}
 use Rattle.c_bytes.specs.Sides.{OUT, outBytes}
 use Rattle.c_parts.proofs.Puts.{Holds, remote-put, out-message-put, out-transfer-put, out-recent-put, in-transfer-put, in-recent-put, out-put, message-put}
-use Rattle.c_promise.specs.Promise.{ComesTo, onBytes, answerOf, Leaves}
-use Rattle.c_promise.specs.declared.types.Answer.{Answer}
+use Rattle.c_promise.specs.Promise.{ComesTo, onBytes, answerOf, Returns}
+use Rattle.c_promise.specs.declared.types.TmcAnswer.{TmcAnswer}
 use Rattle.c_promise.proofs.Called.{state-sound, holds, leaves, stays, kept, sound-unit, comes}
 
 -- the message and the transfer are all that data changes of a side
@@ -62,47 +63,48 @@ module _ (u s : List ℕ) where
 
 -- ** what is left
 
-module _ (u s : List ℕ) (u′ : List ℕ) (r : Answer) where
+module _ (u s : List ℕ) (u′ : List ℕ) (r : TmcAnswer) where
   abbrev call : Call
   call = out-packet s
 
-  pub kept-out : (n : ℕ) → ComesTo u s (Keep n) → r ≡ answerOf (number n) → Leaves (onBytes u call) u r
-  unfolding opened soundly bulkOut outPlan planned
+  pub kept-out : (n : ℕ) → ComesTo u s (Keep n) → r ≡ answerOf (numbered n) → Returns (onBytes u call) u r
+  unfolding unitIn soundly bulkOut outPlan planned
   kept-out n h a =
       kept u (h .lent) call n r a
       (stays u (h .lent) call n
-      (λ e. ap (λ (x : Outcome). carriedOut (opened u) s (planned (stateIn u) x)) (sym (h .is ∙ at-true _ _ _ e)) ∙ unplanned (opened u) s n)
+      (λ e. ap (λ (x : Outcome). withMessage (unitIn u) s (planned (stateIn u) x)) (sym (h .is ∙ at-true _ _ _ e)) ∙ unplanned (unitIn u) s n)
       (λ e. let k = h .is ∙ at-false _ _ _ e in cc))
 
   -- an outcome that is not Keep is that of a sound unit
   module _ {x : Outcome} (other : x ≡ Keep UNSOUND → ⊥) (h : ComesTo u s x) where
-    before : Holds (opened u) u
+    before : Holds (unitIn u) u
     before = holds u (h .lent) (sound-unit h other)
 
-    left : Holds (carriedOut (opened u) s (planned (stateIn u) x) .unit) u′ → r ≡ answerOf (carriedOut (opened u) s (planned (stateIn u) x) .answer) → Leaves (onBytes u call) u′ r
-    unfolding opened soundly bulkOut outPlan
-    left k a = leaves u (h .lent) call (sound-unit h other) _ (ap (λ (y : Outcome). carriedOut (opened u) s (planned (stateIn u) y)) (comes h other)) u′ r k a
+    left : Holds (withMessage (unitIn u) s (planned (stateIn u) x) .unit) u′ → r ≡ answerOf (withMessage (unitIn u) s (planned (stateIn u) x) .answer) → Returns (onBytes u call) u′ r
+    unfolding unitIn soundly bulkOut outPlan
+    left k a = leaves u (h .lent) call (sound-unit h other) _ (ap (λ (y : Outcome). withMessage (unitIn u) s (planned (stateIn u) y)) (comes h other)) u′ r k a
 
   -- with no data the message store stays
-  plainly : (st : State) → Holds (withState (opened u) st) u′ → Holds (record { message = paste (opened u .message) (outOf (stateIn u) .message .held) s 0; reply = opened u .reply; state = st }) u′
-  plainly st k = subst (λ (m : List ℕ). Holds (record { message = m; reply = opened u .reply; state = st }) u′) (paste-zero (opened u .message) (outOf (stateIn u) .message .held) s) k
+  plainly : (st : State) → Holds (withState (unitIn u) st) u′ → Holds (record { message = paste (unitIn u .message) (outOf (stateIn u) .message .held) s 0; reply = unitIn u .reply; state = st }) u′
+  plainly st k = subst (λ (m : List ℕ). Holds (record { message = m; reply = unitIn u .reply; state = st }) u′) (paste-zero (unitIn u .message) (outOf (stateIn u) .message .held) s) k
 
-  pub halted : (n : ℕ) → ComesTo u s (Halt n) → u′ ≡ paste u OUT-MESSAGE-AT (outBytes (broken 1 (outOf (stateIn u)))) OUT → r ≡ answerOf (number n) → Leaves (onBytes u call) u′ r
-  unfolding opened planned
+  pub halted : (n : ℕ) → ComesTo u s (Halt n) → u′ ≡ paste u OUT-MESSAGE-AT (outBytes (broken 1 (outOf (stateIn u)))) OUT → r ≡ answerOf (numbered n) → Returns (onBytes u call) u′ r
+  unfolding unitIn planned
   halted n h f a = left halt-other h (plainly _ (out-put (broken 1 (outOf (stateIn u))) .to (before halt-other h) f)) a
 
   pub data-done : (count : ℕ) → ComesTo u s (Data count) → (v w : List ℕ) → v ≡ paste u (outOf (stateIn u) .message .held) s count
       → w ≡ paste v OUT-MESSAGE-AT (outMessageBytes (absorbed (outOf (stateIn u)) count .message)) OUT-MESSAGE
       → u′ ≡ paste w OUT-TRANSFER-AT (outTransferBytes (absorbed (outOf (stateIn u)) count .transfer)) OUT-TRANSFER
-      → r ≡ answerOf (number DONE) → Leaves (onBytes u call) u′ r
-  unfolding opened planned
+      → r ≡ answerOf (numbered DONE) → Returns (onBytes u call) u′ r
+  unfolding unitIn planned
   data-done count h v w f g k a =
       let fit = data-fits u s count h in
       let o = outOf (stateIn u) in
       let stored = message-put (o .message .held) s count (omega (arith, fit .0 .0, fit .0 .1)) (fit .1) .to (before data-other h) f in
       let put = out-transfer-put (absorbed o count .transfer) .to (out-message-put (absorbed o count .message) .to stored g) k in
       left data-other h
-      (subst (λ (p : BulkOut). Holds (record { message = paste (opened u .message) (o .message .held) s count; reply = opened u .reply; state = withOut (stateIn u) p }) u′) (absorbed-parts o count) put) a
+      (subst (λ (p : BulkOut). Holds (record { message = paste (unitIn u .message) (o .message .held) s count; reply = unitIn u .reply; state = withOut (stateIn u) p }) u′)
+      (absorbed-parts o count) put) a
 
   module _ (tag size end count : ℕ) where
     abbrev opening : BulkOut
@@ -112,9 +114,9 @@ module _ (u s : List ℕ) (u′ : List ℕ) (r : Answer) where
         → w ≡ paste v OUT-MESSAGE-AT (outMessageBytes (absorbed opening count .message)) OUT-MESSAGE
         → x ≡ paste w OUT-TRANSFER-AT (outTransferBytes (absorbed opening count .transfer)) OUT-TRANSFER
         → y ≡ paste x OUT-RECENT-AT (tag ∷ []) 1
-        → u′ ≡ paste y REMOTE-AT (placeOf (withRenOn headed (portOf (stateIn u) .ren) (stateIn u .remote)) ∷ []) 1
-        → r ≡ answerOf (number DONE) → Leaves (onBytes u call) u′ r
-    unfolding opened planned accepted
+        → u′ ≡ paste y REMOTE-AT (remoteNumber (withRenOn headed (portOf (stateIn u) .ren) (stateIn u .remote)) ∷ []) 1
+        → r ≡ answerOf (numbered DONE) → Returns (onBytes u call) u′ r
+    unfolding unitIn planned accepted
     message-done h v w x y f g k l m a =
         let fit = message-fits u s tag size end count h in
         let o = outOf (stateIn u) in
@@ -123,16 +125,18 @@ module _ (u s : List ℕ) (u′ : List ℕ) (r : Answer) where
         let put = out-transfer-put (absorbed opening count .transfer) .to (out-message-put (absorbed opening count .message) .to stored g) k in
         let whole = remote-put remote .to (out-recent-put tag .to put l) m in
         left accept-other h
-        (subst (λ (p : BulkOut). Holds (record { message = paste (opened u .message) (o .message .held) (drop HEADER s) count; reply = opened u .reply; state = withRemote (withOut (stateIn u) p) remote }) u′) (absorbed-parts opening count) whole) a
+        (subst (λ (p : BulkOut). Holds
+        (record { message = paste (unitIn u .message) (o .message .held) (drop HEADER s) count; reply = unitIn u .reply; state = withRemote (withOut (stateIn u) p) remote }) u′)
+        (absorbed-parts opening count) whole) a
 
   pub request-done : (tag size enabled term count : ℕ) → ComesTo u s (Accept (Request tag size enabled term) count) → (v w : List ℕ) → v ≡ paste u OUT-RECENT-AT (tag ∷ []) 1
       → w ≡ paste v IN-TRANSFER-AT (inTransferBytes (askedIn tag (min size STORE) enabled term)) IN-TRANSFER → u′ ≡ paste w IN-RECENT-AT (tag ∷ []) 1
-      → r ≡ answerOf (number DONE) → Leaves (onBytes u call) u′ r
-  unfolding opened planned accepted
+      → r ≡ answerOf (numbered DONE) → Returns (onBytes u call) u′ r
+  unfolding unitIn planned accepted
   request-done tag size enabled term count h v w f g k a =
       left accept-other h (plainly _ (in-recent-put tag .to (in-transfer-put (askedIn tag (min size STORE) enabled term) .to (out-recent-put tag .to (before accept-other h) f) g) k)) a
 
   pub trigger-done : (tag count : ℕ) → ComesTo u s (Accept (Trigger tag) count) → u′ ≡ paste u OUT-RECENT-AT (tag ∷ []) 1
-      → r ≡ answerOf (record { verdict = record { number = DONE; tells = TELLS-TRIGGER }; bytes = [] }) → Leaves (onBytes u call) u′ r
-  unfolding opened planned accepted
+      → r ≡ answerOf (record { verdict = record { number = DONE; tells = TELLS-TRIGGER }; bytes = [] }) → Returns (onBytes u call) u′ r
+  unfolding unitIn planned accepted
   trigger-done tag count h f a = left accept-other h (plainly _ (out-recent-put tag .to (before accept-other h) f)) a

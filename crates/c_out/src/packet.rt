@@ -14,7 +14,7 @@ use c_parts::read::port_of;
 use c_parts::read::remote_of;
 use c_parts::read::state_of;
 use c_promise::answer::numbered;
-use c_promise::types::Answer;
+use c_promise::types::TmcAnswer;
 use out_outcome::outcome::outcome;
 use out_step::sides::absorbed;
 use out_step::sides::opened;
@@ -32,7 +32,7 @@ use wire_code::header::HEADER;
 use wire_code::numbers::widened;
 ghost use mathlib.Core.Path.{_≡_};
 ghost use Rattle.port.specs.Step.{out-packet};
-ghost use Rattle.c_promise.specs.Promise.{ComesTo, onBytes, Leaves};
+ghost use Rattle.c_promise.specs.Promise.{ComesTo, onBytes, Returns};
 
 // What a packet comes to; it is kept with 1 where the bytes are no sound unit's.
 fn outcome_of(u: &[u8; UNIT], s: &[u8]) -> Outcome
@@ -44,9 +44,9 @@ fn outcome_of(u: &[u8; UNIT], s: &[u8]) -> Outcome
     Outcome::Keep { number: UNSOUND }
 }
 
-fn halts(u: &mut [u8; UNIT], s: &[u8], number: u8) -> Answer
+fn halts(u: &mut [u8; UNIT], s: &[u8], number: u8) -> TmcAnswer
     requires { ⌜ ComesTo (now u) (now s) (Outcome.Halt number) ⌝ }
-    ensures { λ r. ⌜ Leaves (onBytes (now (u .entry)) (out-packet (now (s .entry)))) (now (u .exit)) r ⌝ }
+    ensures { λ r. ⌜ Returns (onBytes (now (u .entry)) (out-packet (now (s .entry)))) (now (u .exit)) r ⌝ }
 {
     let o = out_of(u);
     put_out(u, broken(1, o));
@@ -54,9 +54,9 @@ fn halts(u: &mut [u8; UNIT], s: &[u8], number: u8) -> Answer
 }
 
 // Data of the open transfer goes behind what the message holds.
-fn data(u: &mut [u8; UNIT], s: &[u8], count: usize) -> Answer
+fn data(u: &mut [u8; UNIT], s: &[u8], count: usize) -> TmcAnswer
     requires { ⌜ ComesTo (now u) (now s) (Outcome.Data count) ⌝ }
-    ensures { λ r. ⌜ Leaves (onBytes (now (u .entry)) (out-packet (now (s .entry)))) (now (u .exit)) r ⌝ }
+    ensures { λ r. ⌜ Returns (onBytes (now (u .entry)) (out-packet (now (s .entry)))) (now (u .exit)) r ⌝ }
 {
     let o = out_of(u);
     let after = absorbed(o, count);
@@ -67,9 +67,9 @@ fn data(u: &mut [u8; UNIT], s: &[u8], count: usize) -> Answer
 }
 
 // A DEV_DEP_MSG_OUT header with its first data bytes.
-fn message(u: &mut [u8; UNIT], s: &[u8], tag: u8, size: u32, end: u8, count: usize) -> Answer
+fn message(u: &mut [u8; UNIT], s: &[u8], tag: u8, size: u32, end: u8, count: usize) -> TmcAnswer
     requires { ⌜ ComesTo (now u) (now s) (Outcome.Accept (Header.Message tag size end) count) ⌝ }
-    ensures { λ r. ⌜ Leaves (onBytes (now (u .entry)) (out-packet (now (s .entry)))) (now (u .exit)) r ⌝ }
+    ensures { λ r. ⌜ Returns (onBytes (now (u .entry)) (out-packet (now (s .entry)))) (now (u .exit)) r ⌝ }
 {
     let o = out_of(u);
     let after = absorbed(opened(o, tag, size as u16, end), count);
@@ -92,9 +92,9 @@ fn request(
     enabled: u8,
     term: u8,
     count: usize,
-) -> Answer
+) -> TmcAnswer
     requires { ⌜ ComesTo (now u) (now s) (Outcome.Accept (Header.Request tag size enabled term) count) ⌝ }
-    ensures { λ r. ⌜ Leaves (onBytes (now (u .entry)) (out-packet (now (s .entry)))) (now (u .exit)) r ⌝ }
+    ensures { λ r. ⌜ Returns (onBytes (now (u .entry)) (out-packet (now (s .entry)))) (now (u .exit)) r ⌝ }
 {
     let b = in_of(u);
     let after = requested(b, tag, size, enabled, term);
@@ -105,12 +105,12 @@ fn request(
 }
 
 // A TRIGGER header.
-fn trigger(u: &mut [u8; UNIT], s: &[u8], tag: u8, count: usize) -> Answer
+fn trigger(u: &mut [u8; UNIT], s: &[u8], tag: u8, count: usize) -> TmcAnswer
     requires { ⌜ ComesTo (now u) (now s) (Outcome.Accept (Header.Trigger tag) count) ⌝ }
-    ensures { λ r. ⌜ Leaves (onBytes (now (u .entry)) (out-packet (now (s .entry)))) (now (u .exit)) r ⌝ }
+    ensures { λ r. ⌜ Returns (onBytes (now (u .entry)) (out-packet (now (s .entry)))) (now (u .exit)) r ⌝ }
 {
     put_out_recent(u, tag);
-    Answer {
+    TmcAnswer {
         verdict: Verdict {
             number: DONE,
             tells: TELLS_TRIGGER,
@@ -119,9 +119,9 @@ fn trigger(u: &mut [u8; UNIT], s: &[u8], tag: u8, count: usize) -> Answer
     }
 }
 
-fn accepts(u: &mut [u8; UNIT], s: &[u8], header: Header, count: usize) -> Answer
+fn accepts(u: &mut [u8; UNIT], s: &[u8], header: Header, count: usize) -> TmcAnswer
     requires { ⌜ ComesTo (now u) (now s) (Outcome.Accept header count) ⌝ }
-    ensures { λ r. ⌜ Leaves (onBytes (now (u .entry)) (out-packet (now (s .entry)))) (now (u .exit)) r ⌝ }
+    ensures { λ r. ⌜ Returns (onBytes (now (u .entry)) (out-packet (now (s .entry)))) (now (u .exit)) r ⌝ }
 {
     match header {
         Header::Message { tag, size, end } => message(u, s, tag, size, end, count),
@@ -135,8 +135,8 @@ fn accepts(u: &mut [u8; UNIT], s: &[u8], header: Header, count: usize) -> Answer
     }
 }
 
-pub fn bulk_out(u: &mut [u8; UNIT], s: &[u8]) -> Answer
-    ensures { λ r. ⌜ Leaves (onBytes (now (u .entry)) (out-packet (now (s .entry)))) (now (u .exit)) r ⌝ }
+pub fn bulk_out(u: &mut [u8; UNIT], s: &[u8]) -> TmcAnswer
+    ensures { λ r. ⌜ Returns (onBytes (now (u .entry)) (out-packet (now (s .entry)))) (now (u .exit)) r ⌝ }
 {
     let x = outcome_of(u, s);
     match x {

@@ -7,7 +7,8 @@ use native.Mathlib.Omega.{arith}
 use native.Mathlib.Nat.{add-assoc}
 use native.Mathlib.Numerals.{add-one}
 use lib.ListN.{length, set, length-append, drop-of-length-le}
-use lib.Seq.{paste, paste-zero, length-paste, take-append-le, drop-append-le, take-append-add, drop-append-add, take-all, drop-drop, take-paste, drop-paste, set-split, append-snoc}
+use lib.Seq.{paste, paste-zero, length-paste, take-append-le, drop-append-le, take-append-add, drop-append-add}
+use lib.Seq.{take-all, drop-drop, take-paste, drop-paste, set-split, append-snoc}
 
 pub paste-left : (x y : List ℕ) (at : ℕ) (s : List ℕ) (n : ℕ) → at + n ≤ length x → paste (x ++ y) at s n ≡ paste x at s n ++ y
 paste-left x y at s n h = rw (take-append-le at x y (omega arith), drop-append-le (at + n) x y h) (simp append-assoc)

@@ -8,7 +8,8 @@ use mathlib.Core.List.{List, [], _∷_, _++_}
 use native.Mathlib.Omega.{arith}
 use lib.ListN.{length, replicate, length-replicate, replicate-append-replicate}
 use lib.Seq.{paste, length-paste}
-use Rattle.port.specs.Parts.{STORE, outOf, inOf, interruptOf, withPort, withOut, withIn, withInterrupt, withSplit, withRemote, holding, carrying, withInHalted, withInterruptHalted}
+use Rattle.port.specs.Parts.{STORE, outOf, inOf, interruptOf, withPort, withOut, withIn, withInterrupt}
+use Rattle.port.specs.Parts.{withSplit, withRemote, holding, carrying, withInHalted, withInterruptHalted}
 use Rattle.port.specs.Out.{tagged}
 use Rattle.port.specs.Device.{Device, withState, zeroed}
 use Rattle.port.specs.Laws.{Stored}
@@ -24,9 +25,12 @@ use Rattle.port.specs.declared.types.Split.{Split}
 use Rattle.port.specs.declared.types.Remote.{Remote}
 use Rattle.port.specs.declared.types.State.{State}
 use Rattle.c_parts.proofs.Pastes.{paste-left, paste-right, paste-all}
-use Rattle.c_bytes.proofs.Again.{shut-opened}
-use Rattle.c_bytes.proofs.Parted.{stores-long, opened-stored}
-use Rattle.c_bytes.specs.Flat.{PORT, OUT-MESSAGE, OUT-TRANSFER, IN-REPLY, IN-TRANSFER, INTERRUPT, SPLIT, REPLY-AT, PORT-AT, OUT-MESSAGE-AT, OUT-TRANSFER-AT, OUT-RECENT-AT, IN-REPLY-AT, IN-TRANSFER-AT, IN-HALTED-AT, IN-RECENT-AT, INTERRUPT-AT, INTERRUPT-HALTED-AT, SPLIT-AT, REMOTE-AT, UNIT, placeOf, portBytes, outMessageBytes, outTransferBytes, inReplyBytes, inTransferBytes, interruptBytes, splitBytes, bytesOf, opened, shut, isUnit, Bytes}
+use Rattle.c_bytes.proofs.Again.{bytes-of-its-unit}
+use Rattle.c_bytes.proofs.Parted.{stores-long, unit-stored}
+use Rattle.c_bytes.specs.Layout.{PORT, OUT-MESSAGE, OUT-TRANSFER, IN-REPLY, IN-TRANSFER, INTERRUPT, SPLIT, REPLY-AT, PORT-AT, OUT-MESSAGE-AT}
+use Rattle.c_bytes.specs.Layout.{OUT-TRANSFER-AT, OUT-RECENT-AT, IN-REPLY-AT, IN-TRANSFER-AT, IN-HALTED-AT, IN-RECENT-AT, INTERRUPT-AT, INTERRUPT-HALTED-AT}
+use Rattle.c_bytes.specs.Layout.{SPLIT-AT, REMOTE-AT, UNIT, remoteNumber, portBytes, outMessageBytes, outTransferBytes, inReplyBytes, inTransferBytes}
+use Rattle.c_bytes.specs.Layout.{interruptBytes, splitBytes, stateBytes, unitIn, unitBytes, isUnit, Bytes}
 use Rattle.c_bytes.specs.Sides.{OUT, IN, outBytes, inBytes}
 
 -- one part set, the others kept, where port/specs/Parts.antt has no name for it
@@ -48,10 +52,10 @@ inward d = inOf (d .state)
 -- these are the bytes of the unit
 pub record Holds (d : Device) (u : List ℕ) : Type 0 where
   pub stored : Stored d
-  pub bytes : u ≡ shut d
+  pub bytes : u ≡ unitBytes d
 
-pub opened-holds : (u : List ℕ) → length u ≡ UNIT → Bytes u → isUnit u ≡ true → Holds (opened u) u
-opened-holds u long small is = record { stored = opened-stored u (omega arith); bytes = sym (shut-opened u long small is) }
+pub unit-holds : (u : List ℕ) → length u ≡ UNIT → Bytes u → isUnit u ≡ true → Holds (unitIn u) u
+unit-holds u long small is = record { stored = unit-stored u (omega arith); bytes = sym (bytes-of-its-unit u long small is) }
 
 -- n bytes of s at `at` make of the unit d the unit d′
 pub record Put (d : Device) (at : ℕ) (s : List ℕ) (n : ℕ) (d′ : Device) : Type 0 where
@@ -59,8 +63,8 @@ pub record Put (d : Device) (at : ℕ) (s : List ℕ) (n : ℕ) (d′ : Device) 
 
 -- ** each part, a side, and the state
 
-behind : {d : Device} {at n : ℕ} {s : List ℕ} {st : State} → PORT-AT ≤ at → paste (bytesOf (d .state)) (at - PORT-AT) s n ≡ bytesOf st → Put d at s n (withState d st)
-unfolding shut
+behind : {d : Device} {at n : ℕ} {s : List ℕ} {st : State} → PORT-AT ≤ at → paste (stateBytes (d .state)) (at - PORT-AT) s n ≡ stateBytes st → Put d at s n (withState d st)
+unfolding unitBytes
 behind {d} {at} {n} {s} past p = record {
   to = λ e f.
       let stores = d .message ++ d .reply in
@@ -72,69 +76,69 @@ behind {d} {at} {n} {s} past p = record {
 }
 
 pub port-put : {d : Device} (p : Port) → Put d PORT-AT (portBytes p) PORT (withState d (withPort (d .state) p))
-unfolding bytesOf
+unfolding stateBytes
 port-put p = behind (omega arith) refl
 
 pub out-message-put : {d : Device} (m : OutMessage) → Put d OUT-MESSAGE-AT (outMessageBytes m) OUT-MESSAGE (withState d (withOut (d .state) (holding (out d) m (out d .transfer))))
-unfolding bytesOf
+unfolding stateBytes
 out-message-put m = behind (omega arith) refl
 
 pub out-transfer-put : {d : Device} (t : OutTransfer) → Put d OUT-TRANSFER-AT (outTransferBytes t) OUT-TRANSFER (withState d (withOut (d .state) (holding (out d) (out d .message) t)))
-unfolding bytesOf
+unfolding stateBytes
 out-transfer-put t = behind (omega arith) refl
 
 pub out-recent-put : {d : Device} (tag : ℕ) → Put d OUT-RECENT-AT (tag ∷ []) 1 (withState d (withOut (d .state) (tagged (out d) tag)))
-unfolding bytesOf
+unfolding stateBytes
 out-recent-put tag = behind (omega arith) refl
 
 pub in-reply-put : {d : Device} (r : InReply) → Put d IN-REPLY-AT (inReplyBytes r) IN-REPLY (withState d (withIn (d .state) (carrying (inward d) r (inward d .transfer))))
-unfolding bytesOf
+unfolding stateBytes
 in-reply-put r = behind (omega arith) refl
 
 pub in-transfer-put : {d : Device} (t : InTransfer) → Put d IN-TRANSFER-AT (inTransferBytes t) IN-TRANSFER (withState d (withIn (d .state) (carrying (inward d) (inward d .reply) t)))
-unfolding bytesOf
+unfolding stateBytes
 in-transfer-put t = behind (omega arith) refl
 
 pub in-halted-put : {d : Device} (halted : ℕ) → Put d IN-HALTED-AT (halted ∷ []) 1 (withState d (withIn (d .state) (withInHalted (inward d) halted)))
-unfolding bytesOf
+unfolding stateBytes
 in-halted-put halted = behind (omega arith) refl
 
 pub in-recent-put : {d : Device} (tag : ℕ) → Put d IN-RECENT-AT (tag ∷ []) 1 (withState d (withIn (d .state) (inTagged (inward d) tag)))
-unfolding bytesOf
+unfolding stateBytes
 in-recent-put tag = behind (omega arith) refl
 
 pub interrupt-put : {d : Device} (i : InterruptIn) → Put d INTERRUPT-AT (interruptBytes i) INTERRUPT (withState d (withInterrupt (d .state) i))
-unfolding bytesOf
+unfolding stateBytes
 interrupt-put i = behind (omega arith) refl
 
 pub interrupt-halted-put : {d : Device} (halted : ℕ) → Put d INTERRUPT-HALTED-AT (halted ∷ []) 1 (withState d (withInterrupt (d .state) (withInterruptHalted (interruptOf (d .state)) halted)))
-unfolding bytesOf
+unfolding stateBytes
 interrupt-halted-put halted = behind (omega arith) refl
 
 pub split-put : {d : Device} (s : Split) → Put d SPLIT-AT (splitBytes s) SPLIT (withState d (withSplit (d .state) s))
-unfolding bytesOf
+unfolding stateBytes
 split-put s = behind (omega arith) refl
 
-pub remote-put : {d : Device} (r : Remote) → Put d REMOTE-AT (placeOf r ∷ []) 1 (withState d (withRemote (d .state) r))
-unfolding bytesOf
+pub remote-put : {d : Device} (r : Remote) → Put d REMOTE-AT (remoteNumber r ∷ []) 1 (withState d (withRemote (d .state) r))
+unfolding stateBytes
 remote-put r = behind (omega arith) refl
 
 pub out-put : {d : Device} (o : BulkOut) → Put d OUT-MESSAGE-AT (outBytes o) OUT (withState d (withOut (d .state) o))
-unfolding bytesOf
+unfolding stateBytes
 out-put o = behind (omega arith) refl
 
 pub in-put : {d : Device} (b : BulkIn) → Put d IN-REPLY-AT (inBytes b) IN (withState d (withIn (d .state) b))
-unfolding bytesOf
+unfolding stateBytes
 in-put b = behind (omega arith) refl
 
 -- ** the stores
 
-front : {d : Device} {u v : List ℕ} → Holds d u → (at : ℕ) (s : List ℕ) (n : ℕ) → at + n ≤ PORT-AT → v ≡ paste u at s n → v ≡ paste (d .message ++ d .reply) at s n ++ bytesOf (d .state)
-unfolding shut
+front : {d : Device} {u v : List ℕ} → Holds d u → (at : ℕ) (s : List ℕ) (n : ℕ) → at + n ≤ PORT-AT → v ≡ paste u at s n → v ≡ paste (d .message ++ d .reply) at s n ++ stateBytes (d .state)
+unfolding unitBytes
 front {d} e at s n room f = rw (f, e .bytes) (paste-left (d .message ++ d .reply) _ at s n (omega (arith, stores-long d (e .stored))))
 
 pub message-put : {d : Device} (at : ℕ) (s : List ℕ) (n : ℕ) → at + n ≤ STORE → n ≤ length s → Put d at s n (withMessage d (paste (d .message) at s n))
-unfolding shut
+unfolding unitBytes
 message-put {d} at s n room enough = record {
   to = λ e f.
       let long = e .stored .message in
@@ -145,19 +149,20 @@ message-put {d} at s n room enough = record {
 }
 
 pub reply-put : {d : Device} (s : List ℕ) (n : ℕ) → n ≤ STORE → n ≤ length s → Put d REPLY-AT s n (withReply d (paste (d .reply) 0 s n))
-unfolding shut
+unfolding unitBytes
 reply-put {d} s n room enough = record {
   to = λ e f.
       let long = e .stored .reply in
       let k : REPLY-AT ≡ length (d .message) + 0 = omega (arith, e .stored .message) in
       record {
         stored = record { message = e .stored .message; reply = length-paste (d .reply) 0 s n (omega arith) enough ∙ long };
-        bytes = front e REPLY-AT s n (omega arith) f ∙ ap (λ (a : List ℕ). a ++ bytesOf (d .state)) (ap (λ (j : ℕ). paste (d .message ++ d .reply) j s n) k ∙ paste-right (d .message) (d .reply) 0 s n);
+        bytes = front e REPLY-AT s n (omega arith) f ∙ ap (λ (a : List ℕ). a ++ stateBytes (d .state))
+            (ap (λ (j : ℕ). paste (d .message ++ d .reply) j s n) k ∙ paste-right (d .message) (d .reply) 0 s n);
       };
 }
 
 pub wiped : {d : Device} → Put d 0 (replicate PORT-AT 0) PORT-AT (record { message = zeroed; reply = zeroed; state = d .state })
-unfolding shut zeroed
+unfolding unitBytes zeroed
 wiped {d} = record {
   to = λ e f.
       let long = length-replicate {A = ℕ} STORE 0 in
@@ -165,7 +170,7 @@ wiped {d} = record {
         stored = record { message = long; reply = long };
         bytes =
             front e 0 (replicate PORT-AT 0) PORT-AT (omega arith) f
-            ∙ ap (λ (a : List ℕ). a ++ bytesOf (d .state))
+            ∙ ap (λ (a : List ℕ). a ++ stateBytes (d .state))
             (paste-all (d .message ++ d .reply) (replicate PORT-AT 0) PORT-AT (stores-long d (e .stored)) (length-replicate {A = ℕ} PORT-AT 0)
             ∙ sym (replicate-append-replicate {A = ℕ} STORE STORE 0));
       };

@@ -18,7 +18,10 @@ ghost use mathlib.Core.List.{[], _∷_};
 ghost use Prim.Native.Nat.{ℕ, _<_, _≤_};
 ghost use lib.ListN.{length, replicate};
 ghost use lib.Seq.{paste};
-ghost use Rattle.c_bytes.specs.Flat.{PORT, OUT-MESSAGE, OUT-TRANSFER, IN-REPLY, IN-TRANSFER, INTERRUPT, SPLIT, PORT-AT, OUT-MESSAGE-AT, OUT-HALTED-AT, OUT-TRANSFER-AT, OUT-RECENT-AT, IN-REPLY-AT, IN-TRANSFER-AT, IN-HALTED-AT, IN-RECENT-AT, INTERRUPT-AT, INTERRUPT-HALTED-AT, SPLIT-AT, REMOTE-AT, UNIT, placeOf, portBytes, outMessageBytes, outTransferBytes, inReplyBytes, inTransferBytes, interruptBytes, splitBytes, bytesOf};
+ghost use Rattle.c_bytes.specs.Layout.{PORT, OUT-MESSAGE, OUT-TRANSFER, IN-REPLY, IN-TRANSFER, INTERRUPT, SPLIT, PORT-AT, OUT-MESSAGE-AT};
+ghost use Rattle.c_bytes.specs.Layout.{OUT-HALTED-AT, OUT-TRANSFER-AT, OUT-RECENT-AT, IN-REPLY-AT, IN-TRANSFER-AT, IN-HALTED-AT, IN-RECENT-AT};
+ghost use Rattle.c_bytes.specs.Layout.{INTERRUPT-AT, INTERRUPT-HALTED-AT, SPLIT-AT, REMOTE-AT, UNIT, remoteNumber, portBytes, outMessageBytes};
+ghost use Rattle.c_bytes.specs.Layout.{outTransferBytes, inReplyBytes, inTransferBytes, interruptBytes, splitBytes, stateBytes};
 ghost use Rattle.c_bytes.specs.Sides.{OUT, IN, STATE, outBytes, inBytes};
 
 // ** a part in its place
@@ -123,9 +126,9 @@ pub fn put_split(u: &mut [u8], s: Split)
 
 pub fn put_remote(u: &mut [u8], r: Remote)
     requires { ⌜ UNIT ≤ length (now u) ⌝ }
-    ensures { λ _. ⌜ now (u .exit) ≡ paste (now (u .entry)) REMOTE-AT (placeOf r ∷ []) 1 ⌝ }
+    ensures { λ _. ⌜ now (u .exit) ≡ paste (now (u .entry)) REMOTE-AT (remoteNumber r ∷ []) 1 ⌝ }
 {
-    let place = bytes::place_of(r);
+    let place = bytes::remote_number(r);
     put_byte(u, places::REMOTE_AT, place);
 }
 
@@ -153,7 +156,7 @@ pub fn put_in(u: &mut [u8], b: BulkIn)
 
 pub fn put_state(u: &mut [u8], st: State)
     requires { ⌜ UNIT ≤ length (now u) ⌝ }
-    ensures { λ _. ⌜ now (u .exit) ≡ paste (now (u .entry)) PORT-AT (bytesOf st) STATE ⌝ }
+    ensures { λ _. ⌜ now (u .exit) ≡ paste (now (u .entry)) PORT-AT (stateBytes st) STATE ⌝ }
 {
     let split = st.split;
     let remote = st.remote;

@@ -16,7 +16,7 @@ ghost use lib.ListN.{length};
 ghost use Rattle.rules.specs.Choice.{_and_};
 ghost use Rattle.port.specs.Parts.{portOf, outOf, inOf, interruptOf};
 ghost use Rattle.port.specs.Sound.{sound};
-ghost use Rattle.c_bytes.specs.Flat.{UNIT, part, stateIn, isUnit, Bytes};
+ghost use Rattle.c_bytes.specs.Layout.{UNIT, part, stateIn, isUnit, Bytes};
 
 // n of its bytes, from `at` on.
 fn part(u: &[u8], at: usize, n: usize) -> &[u8]

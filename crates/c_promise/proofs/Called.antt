@@ -11,21 +11,21 @@ use Rattle.rules.specs.Answers.{UNSOUND}
 use Rattle.rules.proofs.Choice.{pick-true, pick-false, at-true, at-false, both-left, both-right, not-both}
 use Rattle.wire.specs.Bytes.{into}
 use Rattle.port.specs.Sound.{sound}
-use Rattle.port.specs.Answer.{number}
+use Rattle.port.specs.Answer.{numbered}
 use Rattle.port.specs.Device.{Result}
 use Rattle.port.specs.Calls.{refused}
 use Rattle.port.specs.Step.{Call, soundly, step}
 use Rattle.port.proofs.KeepsOut.{cases}
 use Rattle.port.proofs.Calls.{step-sound, unsound-refused}
-use Rattle.c_bytes.specs.Flat.{UNIT, stateIn, opened, shut, isUnit, Bytes}
-use Rattle.c_bytes.proofs.Again.{shut-opened}
-use Rattle.c_parts.proofs.Puts.{Holds, opened-holds}
-use Rattle.c_promise.specs.Promise.{isSoundUnit, Lent, Decided, Left, shutOf, keptOf, onBytes, Leaves, Fills, answerOf}
-use Rattle.c_promise.specs.declared.types.Answer.{Answer}
+use Rattle.c_bytes.specs.Layout.{UNIT, stateIn, unitIn, unitBytes, isUnit, Bytes}
+use Rattle.c_bytes.proofs.Again.{bytes-of-its-unit}
+use Rattle.c_parts.proofs.Puts.{Holds, unit-holds}
+use Rattle.c_promise.specs.Promise.{isSoundUnit, Lent, Decided, BytesResult, resultBytes, keptOf, onBytes, Returns, Fills, answerOf}
+use Rattle.c_promise.specs.declared.types.TmcAnswer.{TmcAnswer}
 
 -- bytes that are a unit's, and those that are not
 module _ (u : List ℕ) (c : Call) where
-  pub on-unit : isUnit u ≡ true → onBytes u c ≡ shutOf (step (opened u) c)
+  pub on-unit : isUnit u ≡ true → onBytes u c ≡ resultBytes (step (unitIn u) c)
   unfolding onBytes
   on-unit e = at-true _ _ _ e
 
@@ -37,41 +37,41 @@ pub state-sound : (u : List ℕ) → isSoundUnit u ≡ true → sound (stateIn u
 state-sound u e = both-right (isUnit u) _ e
 
 module _ (u : List ℕ) (lent : Lent u) where
-  pub again : isUnit u ≡ true → shut (opened u) ≡ u
-  again is = shut-opened u (lent .long) (lent .small) is
+  pub again : isUnit u ≡ true → unitBytes (unitIn u) ≡ u
+  again is = bytes-of-its-unit u (lent .long) (lent .small) is
 
-  pub holds : isSoundUnit u ≡ true → Holds (opened u) u
-  holds e = opened-holds u (lent .long) (lent .small) (both-left _ _ e)
+  pub holds : isSoundUnit u ≡ true → Holds (unitIn u) u
+  holds e = unit-holds u (lent .long) (lent .small) (both-left _ _ e)
 
   module _ (c : Call) where
     unsound-left : isSoundUnit u ≡ false → onBytes u c ≡ keptOf u UNSOUND
-    unfolding opened
+    unfolding unitIn
     unsound-left e =
         ⊎-elim
-        (λ is. on-unit u c is ∙ ap shutOf (unsound-refused (opened u) c (not-both _ _ e is)) ∙ ap (λ (v : List ℕ). keptOf v UNSOUND) (again is))
+        (λ is. on-unit u c is ∙ ap resultBytes (unsound-refused (unitIn u) c (not-both _ _ e is)) ∙ ap (λ (v : List ℕ). keptOf v UNSOUND) (again is))
         (λ is. on-none u c is)
         (cases (isUnit u))
 
     module _ (e : isSoundUnit u ≡ true) where
-      sound-left : onBytes u c ≡ shutOf (soundly (opened u) c)
-      unfolding opened
-      sound-left = on-unit u c (both-left _ _ e) ∙ ap shutOf (step-sound (opened u) c (state-sound u e))
+      sound-left : onBytes u c ≡ resultBytes (soundly (unitIn u) c)
+      unfolding unitIn
+      sound-left = on-unit u c (both-left _ _ e) ∙ ap resultBytes (step-sound (unitIn u) c (state-sound u e))
 
       -- a refusal: nothing is written
-      module _ (n : ℕ) (refuses : soundly (opened u) c ≡ refused (opened u) n) where
+      module _ (n : ℕ) (refuses : soundly (unitIn u) c ≡ refused (unitIn u) n) where
         refused-left : onBytes u c ≡ keptOf u n
-        refused-left = sound-left ∙ ap shutOf refuses ∙ ap (λ (v : List ℕ). keptOf v n) (again (both-left _ _ e))
+        refused-left = sound-left ∙ ap resultBytes refuses ∙ ap (λ (v : List ℕ). keptOf v n) (again (both-left _ _ e))
 
       -- a result, whose unit the bytes hold at the end
-      module _ (q : Result) (is : soundly (opened u) c ≡ q) (u′ : List ℕ) (r : Answer) (h : Holds (q .unit) u′) (a : r ≡ answerOf (q .answer)) where
-        pub leaves : Leaves (onBytes u c) u′ r
-        leaves = subst (λ (l : Left). Leaves l u′ r) (sym (sound-left ∙ ap shutOf is)) (record { unit = h .bytes; answer = a })
+      module _ (q : Result) (is : soundly (unitIn u) c ≡ q) (u′ : List ℕ) (r : TmcAnswer) (h : Holds (q .unit) u′) (a : r ≡ answerOf (q .answer)) where
+        pub leaves : Returns (onBytes u c) u′ r
+        leaves = subst (λ (l : BytesResult). Returns l u′ r) (sym (sound-left ∙ ap resultBytes is)) (record { unit = h .bytes; answer = a })
 
         pub fills : (b b′ : List ℕ) → b′ ≡ into (q .answer .bytes) b → Fills (onBytes u c) b b′ u′ r
-        fills b b′ f = record { left = leaves; buffer = f ∙ ap (λ (l : Left). into (l .answer .bytes) b) (sym (sound-left ∙ ap shutOf is)) }
+        fills b b′ f = record { left = leaves; buffer = f ∙ ap (λ (l : BytesResult). into (l .answer .bytes) b) (sym (sound-left ∙ ap resultBytes is)) }
 
     -- nothing is written where a sound unit is refused with a number, and another with 1
-    pub stays : (n : ℕ) → (isSoundUnit u ≡ true → soundly (opened u) c ≡ refused (opened u) n) → (isSoundUnit u ≡ false → n ≡ UNSOUND) → onBytes u c ≡ keptOf u n
+    pub stays : (n : ℕ) → (isSoundUnit u ≡ true → soundly (unitIn u) c ≡ refused (unitIn u) n) → (isSoundUnit u ≡ false → n ≡ UNSOUND) → onBytes u c ≡ keptOf u n
     stays n sounds unsounds =
         ⊎-elim
         (λ e. refused-left e n (sounds e))
@@ -79,12 +79,12 @@ module _ (u : List ℕ) (lent : Lent u) where
         (cases (isSoundUnit u))
 
     -- a number, and the bytes as they were: of a refusal, or of a unit that is not sound
-    module _ (n : ℕ) (r : Answer) (a : r ≡ answerOf (number n)) where
-      pub kept : onBytes u c ≡ keptOf u n → Leaves (onBytes u c) u r
-      kept e = subst (λ (l : Left). Leaves l u r) (sym e) (record { unit = refl; answer = a })
+    module _ (n : ℕ) (r : TmcAnswer) (a : r ≡ answerOf (numbered n)) where
+      pub kept : onBytes u c ≡ keptOf u n → Returns (onBytes u c) u r
+      kept e = subst (λ (l : BytesResult). Returns l u r) (sym e) (record { unit = refl; answer = a })
 
       pub kept-into : onBytes u c ≡ keptOf u n → (b : List ℕ) → Fills (onBytes u c) b b u r
-      kept-into e b = record { left = kept e; buffer = ap (λ (l : Left). into (l .answer .bytes) b) (sym e) }
+      kept-into e b = record { left = kept e; buffer = ap (λ (l : BytesResult). into (l .answer .bytes) b) (sym e) }
 
 -- ** what is decided over the bytes
 
@@ -114,11 +114,12 @@ module _ {u : List ℕ} {x n : ℕ} (h : Decided u x UNSOUND n) (z : n ≡ 0) wh
   by-rules = sym (comes h (λ e. omega arith))
 
 -- a call whose rules are asked first: one applies, and it is refused; or the bytes are no sound unit's
-module _ (u : List ℕ) (c : Call) {x n : ℕ} (h : Decided u x UNSOUND n) (refuses : isSoundUnit u ≡ true → n ≡ x → soundly (opened u) c ≡ refused (opened u) n) (r : Answer) (a : r ≡ answerOf (number n)) where
+module _ (u : List ℕ) (c : Call) {x n : ℕ} (h : Decided u x UNSOUND n) (refuses : isSoundUnit u ≡ true → n ≡ x → soundly (unitIn u) c ≡ refused (unitIn u) n) (r : TmcAnswer)
+    (a : r ≡ answerOf (numbered n)) where
   left : onBytes u c ≡ keptOf u n
   left = stays u (h .lent) c n (λ e. refuses e (h .is ∙ at-true _ _ _ e)) (λ e. h .is ∙ at-false _ _ _ e)
 
-  pub refusal : Leaves (onBytes u c) u r
+  pub refusal : Returns (onBytes u c) u r
   refusal = kept u (h .lent) c n r a left
 
   pub refusal-into : (b : List ℕ) → Fills (onBytes u c) b b u r

@@ -11,7 +11,7 @@ use Rattle.port.specs.Device.{zeroed, made}
 use Rattle.port.specs.Laws.{Stored}
 use Rattle.port.specs.declared.types.Setting.{Setting}
 use Rattle.port.specs.declared.types.State.{State}
-use Rattle.c_bytes.specs.Flat.{PORT-AT, UNIT, bytesOf, shut}
+use Rattle.c_bytes.specs.Layout.{PORT-AT, UNIT, stateBytes, unitBytes}
 use Rattle.c_bytes.specs.Sides.{STATE}
 use Rattle.c_parts.proofs.Pastes.{paste-left, paste-right, paste-all}
 use Rattle.c_bytes.proofs.Parted.{bytes-long}
@@ -29,18 +29,19 @@ module _ (u : List ℕ) (long : length u ≡ UNIT) where
       ∙ paste-left (take PORT-AT u) (drop PORT-AT u) 0 zeros PORT-AT (omega (arith, length-take-le PORT-AT u (omega arith)))
       ∙ ap (λ (v : List ℕ). v ++ drop PORT-AT u) (paste-all (take PORT-AT u) zeros PORT-AT (length-take-le PORT-AT u (omega arith)) (length-replicate {A = ℕ} PORT-AT 0))
 
-  put : (st : State) → paste (zeros ++ drop PORT-AT u) PORT-AT (bytesOf st) STATE ≡ zeros ++ bytesOf st
+  put : (st : State) → paste (zeros ++ drop PORT-AT u) PORT-AT (stateBytes st) STATE ≡ zeros ++ stateBytes st
   put st =
       let k : PORT-AT ≡ length zeros + 0 = omega (arith, length-replicate {A = ℕ} PORT-AT 0) in
-      ap (λ (at : ℕ). paste (zeros ++ drop PORT-AT u) at (bytesOf st) STATE) k
-      ∙ paste-right zeros (drop PORT-AT u) 0 (bytesOf st) STATE
-      ∙ ap (λ (v : List ℕ). zeros ++ v) (paste-all (drop PORT-AT u) (bytesOf st) STATE behind-long (bytes-long st))
+      ap (λ (at : ℕ). paste (zeros ++ drop PORT-AT u) at (stateBytes st) STATE) k
+      ∙ paste-right zeros (drop PORT-AT u) 0 (stateBytes st) STATE
+      ∙ ap (λ (v : List ℕ). zeros ++ v) (paste-all (drop PORT-AT u) (stateBytes st) STATE behind-long (bytes-long st))
 
-  pub made-of : (setting : Setting) (configured : ℕ) (v w : List ℕ) → v ≡ paste u 0 zeros PORT-AT → w ≡ paste v PORT-AT (bytesOf (fresh setting configured)) STATE → w ≡ shut (made setting configured)
-  unfolding made zeroed shut
+  pub made-of : (setting : Setting) (configured : ℕ) (v w : List ℕ) → v ≡ paste u 0 zeros PORT-AT → w ≡ paste v PORT-AT (stateBytes (fresh setting configured)) STATE
+      → w ≡ unitBytes (made setting configured)
+  unfolding made zeroed unitBytes
   made-of setting configured v w e f =
-      f ∙ ap (λ (x : List ℕ). paste x PORT-AT (bytesOf (fresh setting configured)) STATE) (e ∙ wiped) ∙ put (fresh setting configured)
-      ∙ ap (λ (z : List ℕ). z ++ bytesOf (fresh setting configured)) (sym (replicate-append-replicate {A = ℕ} STORE STORE 0))
+      f ∙ ap (λ (x : List ℕ). paste x PORT-AT (stateBytes (fresh setting configured)) STATE) (e ∙ wiped) ∙ put (fresh setting configured)
+      ∙ ap (λ (z : List ℕ). z ++ stateBytes (fresh setting configured)) (sym (replicate-append-replicate {A = ℕ} STORE STORE 0))
 
 pub made-stored : (setting : Setting) (configured : ℕ) → Stored (made setting configured)
 unfolding made zeroed

@@ -9,7 +9,7 @@ use Rattle.rules.specs.Choice.{_and_, pick, first}
 use Rattle.rules.specs.Answers.{UNSOUND}
 use Rattle.wire.specs.Bytes.{into}
 use Rattle.port.specs.Sound.{sound}
-use Rattle.port.specs.Answer.{number, Answer as Said}
+use Rattle.port.specs.Answer.{numbered, Answer}
 use Rattle.port.specs.Out.{outcome}
 use Rattle.port.specs.Device.{Result}
 use Rattle.port.specs.Calls.{setupOutcome}
@@ -18,8 +18,8 @@ use Rattle.port.specs.declared.types.Outcome.the-variants.{Keep}
 use Rattle.port.specs.declared.types.SetupOutcome.{SetupOutcome}
 use Rattle.port.specs.declared.types.SetupOutcome.the-variants.{Denies}
 use Rattle.port.specs.Step.{Call, step}
-use Rattle.c_bytes.specs.Flat.{UNIT, stateIn, isUnit, opened, shut, Bytes}
-use Rattle.c_promise.specs.declared.types.Answer.{Answer}
+use Rattle.c_bytes.specs.Layout.{UNIT, stateIn, isUnit, unitIn, unitBytes, Bytes}
+use Rattle.c_promise.specs.declared.types.TmcAnswer.{TmcAnswer}
 
 -- whether bytes are those of a sound unit
 abbrev pub isSoundUnit : List ℕ → Bool
@@ -48,44 +48,44 @@ abbrev pub SetupComesTo : List ℕ → List ℕ → ℕ → SetupOutcome → Typ
 SetupComesTo u s room x = Decided u (setupOutcome (stateIn u) s room) (Denies UNSOUND) x
 
 -- a unit in bytes after a call, and the call's answer
-pub record Left : Type 0 where
+pub record BytesResult : Type 0 where
   pub unit : List ℕ
-  pub answer : Said
+  pub answer : Answer
 
-abbrev pub shutOf : Result → Left
-shutOf q = record { unit = shut (q .unit); answer = q .answer }
+abbrev pub resultBytes : Result → BytesResult
+resultBytes q = record { unit = unitBytes (q .unit); answer = q .answer }
 
 -- the bytes as they were, with a number
-abbrev pub keptOf : List ℕ → ℕ → Left
-keptOf u n = record { unit = u; answer = number n }
+abbrev pub keptOf : List ℕ → ℕ → BytesResult
+keptOf u n = record { unit = u; answer = numbered n }
 
 -- the definitions' step on the unit that the bytes are; bytes that are no unit's are answered 1 and stay
-unfoldable pub onBytes : List ℕ → Call → Left
-onBytes u c = pick (isUnit u) (shutOf (step (opened u) c)) (keptOf u UNSOUND)
+unfoldable pub onBytes : List ℕ → Call → BytesResult
+onBytes u c = pick (isUnit u) (resultBytes (step (unitIn u) c)) (keptOf u UNSOUND)
 
 -- an answer as C has it: its bytes are in the lent buffer
-abbrev pub answerOf : Said → Answer
+abbrev pub answerOf : Answer → TmcAnswer
 answerOf a = record { verdict = a .verdict; len = length (a .bytes) }
 
-pub record Leaves (q : Left) (u′ : List ℕ) (r : Answer) : Type 0 where
+pub record Returns (q : BytesResult) (u′ : List ℕ) (r : TmcAnswer) : Type 0 where
   pub unit : u′ ≡ q .unit
   pub answer : r ≡ answerOf (q .answer)
 
 -- and the lent buffer held `b` before the call and holds `b′` after it
-pub record Fills (q : Left) (b b′ u′ : List ℕ) (r : Answer) : Type 0 where
-  pub left : Leaves q u′ r
+pub record Fills (q : BytesResult) (b b′ u′ : List ℕ) (r : TmcAnswer) : Type 0 where
+  pub left : Returns q u′ r
   pub buffer : b′ ≡ into (q .answer .bytes) b
 
 -- ** what it is for a unit's bytes and an answer to be the definitions' step `q`: the unit, the verdict, its bytes, and the lent buffer
 
-pub record IsStep (q : Result) (u′ : List ℕ) (r : Answer) : Type 0 where
-  pub unit : u′ ≡ shut (q .unit)
+pub record IsStep (q : Result) (u′ : List ℕ) (r : TmcAnswer) : Type 0 where
+  pub unit : u′ ≡ unitBytes (q .unit)
   pub verdict : r .verdict ≡ q .answer .verdict
   pub bytes : q .answer .bytes ≡ []
   pub len : r .len ≡ 0
 
-pub record IsStepInto (q : Result) (b b′ u′ : List ℕ) (r : Answer) : Type 0 where
-  pub unit : u′ ≡ shut (q .unit)
+pub record IsStepInto (q : Result) (b b′ u′ : List ℕ) (r : TmcAnswer) : Type 0 where
+  pub unit : u′ ≡ unitBytes (q .unit)
   pub verdict : r .verdict ≡ q .answer .verdict
   pub bytes : take (r .len) b′ ≡ q .answer .bytes
   pub rest : drop (r .len) b′ ≡ drop (r .len) b

@@ -7,10 +7,10 @@ use port::types::Setting;
 use state_parts::parts::fresh;
 ghost use mathlib.Core.Path.{_≡_};
 ghost use Rattle.port.specs.Device.{made};
-ghost use Rattle.c_bytes.specs.Flat.{shut};
+ghost use Rattle.c_bytes.specs.Layout.{unitBytes};
 
 pub fn make(u: &mut [u8; UNIT], setting: Setting, configured: u8)
-    ensures { λ _. ⌜ now (u .exit) ≡ shut (made setting configured) ⌝ }
+    ensures { λ _. ⌜ now (u .exit) ≡ unitBytes (made setting configured) ⌝ }
 {
     wipe(u, PORT_AT);
     put_state(u, fresh(setting, configured));

@@ -1,12 +1,12 @@
 // The call.
 use c_bytes::places::UNIT;
-use c_effects::carry::carry;
+use c_effects::effects::put_effect;
 use c_parts::read::is_sound;
 use c_parts::read::port_of;
 use c_parts::read::state_of;
 use c_promise::answer::numbered;
 use c_promise::make::make;
-use c_promise::types::Answer;
+use c_promise::types::TmcAnswer;
 use port::types::SetupOutcome;
 use rules::DONE;
 use rules::UNSOUND;
@@ -27,30 +27,33 @@ fn outcome_of(u: &[u8; UNIT], s: &[u8], room: usize) -> SetupOutcome
     SetupOutcome::Denies { number: UNSOUND }
 }
 
-fn renews(u: &mut [u8; UNIT], s: &[u8], b: &mut [u8], value: u8) -> Answer
+fn renews(u: &mut [u8; UNIT], s: &[u8], b: &mut [u8], value: u8) -> TmcAnswer
     requires { ⌜ SetupComesTo (now u) (now s) (length (now b)) (SetupOutcome.Renews value) ⌝ }
-    ensures { λ r. ⌜ Fills (onBytes (now (u .entry)) (setup-of (now (s .entry)) (length (now (b .entry))))) (now (b .entry)) (now (b .exit)) (now (u .exit)) r ⌝ }
+    ensures { λ r. ⌜ Fills (onBytes (now (u .entry)) (setup-of (now (s .entry)) (length (now (b .entry))))) (now (b .entry)) (now (b .exit))
+        (now (u .exit)) r ⌝ }
 {
     let p = port_of(u);
     make(u, p.setting, value);
     numbered(DONE)
 }
 
-fn answers(u: &mut [u8; UNIT], s: &[u8], b: &mut [u8], row: Row) -> Answer
+fn answers(u: &mut [u8; UNIT], s: &[u8], b: &mut [u8], row: Row) -> TmcAnswer
     requires { ⌜ SetupComesTo (now u) (now s) (length (now b)) (SetupOutcome.Answers row) ⌝ }
-    ensures { λ r. ⌜ Fills (onBytes (now (u .entry)) (setup-of (now (s .entry)) (length (now (b .entry))))) (now (b .entry)) (now (b .exit)) (now (u .exit)) r ⌝ }
+    ensures { λ r. ⌜ Fills (onBytes (now (u .entry)) (setup-of (now (s .entry)) (length (now (b .entry))))) (now (b .entry)) (now (b .exit))
+        (now (u .exit)) r ⌝ }
 {
     let r = reply(state_of(u), row, b);
     let effect = r.effect;
     let verdict = r.verdict;
     let len = r.len;
-    carry(u, effect);
-    Answer { verdict, len }
+    put_effect(u, effect);
+    TmcAnswer { verdict, len }
 }
 
 // A setup packet; its answer goes into the control buffer `b`.
-pub fn setup(u: &mut [u8; UNIT], s: &[u8], b: &mut [u8]) -> Answer
-    ensures { λ r. ⌜ Fills (onBytes (now (u .entry)) (setup-of (now (s .entry)) (length (now (b .entry))))) (now (b .entry)) (now (b .exit)) (now (u .exit)) r ⌝ }
+pub fn setup(u: &mut [u8; UNIT], s: &[u8], b: &mut [u8]) -> TmcAnswer
+    ensures { λ r. ⌜ Fills (onBytes (now (u .entry)) (setup-of (now (s .entry)) (length (now (b .entry))))) (now (b .entry)) (now (b .exit))
+        (now (u .exit)) r ⌝ }
 {
     let x = outcome_of(u, s, b.len());
     match x {

@@ -11,7 +11,7 @@ use c_parts::read::out_of;
 use c_parts::read::remote_of;
 use c_parts::read::state_of;
 use c_promise::answer::numbered;
-use c_promise::types::Answer;
+use c_promise::types::TmcAnswer;
 use interrupt_step::part::status_held;
 use port::types::InReply;
 use port::types::Remote;
@@ -28,8 +28,8 @@ ghost use mathlib.Core.Path.{_≡_};
 ghost use lib.ListN.{length};
 ghost use Rattle.port.specs.Calls.{thermostatRules, takeRules, offerRules};
 ghost use Rattle.port.specs.Step.{quiet, take-into, offer-reply, set-status, front-panel};
-ghost use Rattle.c_bytes.specs.Flat.{stateIn};
-ghost use Rattle.c_promise.specs.Promise.{IsNumber, onBytes, Leaves, Fills};
+ghost use Rattle.c_bytes.specs.Layout.{stateIn};
+ghost use Rattle.c_promise.specs.Promise.{IsNumber, onBytes, Returns, Fills};
 
 // The first rule that applies to a take into `room` bytes, or 0.
 fn take_number(u: &[u8; UNIT], room: usize) -> u8
@@ -41,7 +41,7 @@ fn take_number(u: &[u8; UNIT], room: usize) -> u8
     UNSOUND
 }
 
-pub fn take(u: &mut [u8; UNIT], b: &mut [u8]) -> Answer
+pub fn take(u: &mut [u8; UNIT], b: &mut [u8]) -> TmcAnswer
     ensures { λ r. ⌜ Fills (onBytes (now (u .entry)) (take-into (length (now (b .entry))))) (now (b .entry)) (now (b .exit)) (now (u .exit)) r ⌝ }
 {
     let number = take_number(u, b.len());
@@ -52,7 +52,7 @@ pub fn take(u: &mut [u8; UNIT], b: &mut [u8]) -> Answer
     let len = widened(o.message.held);
     copy_in(b, 0, u, 0, len);
     put_out_message(u, no_message());
-    Answer {
+    TmcAnswer {
         verdict: only(DONE),
         len,
     }
@@ -68,8 +68,8 @@ fn offer_number(u: &[u8; UNIT], n: usize) -> u8
     UNSOUND
 }
 
-pub fn offer(u: &mut [u8; UNIT], bytes: &[u8]) -> Answer
-    ensures { λ r. ⌜ Leaves (onBytes (now (u .entry)) (quiet (offer-reply (now (bytes .entry))))) (now (u .exit)) r ⌝ }
+pub fn offer(u: &mut [u8; UNIT], bytes: &[u8]) -> TmcAnswer
+    ensures { λ r. ⌜ Returns (onBytes (now (u .entry)) (quiet (offer-reply (now (bytes .entry))))) (now (u .exit)) r ⌝ }
 {
     let n = bytes.len();
     let number = offer_number(u, n);
@@ -97,8 +97,8 @@ fn thermostat_number(u: &[u8; UNIT]) -> u8
     UNSOUND
 }
 
-pub fn set_status(u: &mut [u8; UNIT], status: u8) -> Answer
-    ensures { λ r. ⌜ Leaves (onBytes (now (u .entry)) (quiet (set-status status))) (now (u .exit)) r ⌝ }
+pub fn set_status(u: &mut [u8; UNIT], status: u8) -> TmcAnswer
+    ensures { λ r. ⌜ Returns (onBytes (now (u .entry)) (quiet (set-status status))) (now (u .exit)) r ⌝ }
 {
     let number = thermostat_number(u);
     if number != 0 {
@@ -109,8 +109,8 @@ pub fn set_status(u: &mut [u8; UNIT], status: u8) -> Answer
     numbered(DONE)
 }
 
-pub fn panel(u: &mut [u8; UNIT]) -> Answer
-    ensures { λ r. ⌜ Leaves (onBytes (now (u .entry)) (quiet front-panel)) (now (u .exit)) r ⌝ }
+pub fn panel(u: &mut [u8; UNIT]) -> TmcAnswer
+    ensures { λ r. ⌜ Returns (onBytes (now (u .entry)) (quiet front-panel)) (now (u .exit)) r ⌝ }
 {
     let number = thermostat_number(u);
     if number != 0 {

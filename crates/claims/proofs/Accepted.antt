@@ -228,7 +228,8 @@ module _ (u : Device) (s : List ℕ) (g : given u (out-packet s) 0) where
             fits = most;
             long = l;
             bytes = twelve s l
-                ∙ (λ i. (is i ∷ sym its-tag i ∷ inverse i ∷ e i ∷ b .0 i ∷ b .1 i ∷ b .2 i ∷ b .3 i ∷ sym its-end i ∷ zero-at (at s 9) z (λ y. y .0) i ∷ zero-at (at s 10) z (λ y. y .1) i ∷ zero-at (at s 11) z (λ y. y .2) i ∷ []) ++ drop 12 s);
+                ∙ (λ i. (is i ∷ sym its-tag i ∷ inverse i ∷ e i ∷ b .0 i ∷ b .1 i ∷ b .2 i ∷ b .3 i ∷ sym its-end i ∷ zero-at (at s 9) z (λ y. y .0) i ∷ zero-at (at s 10) z
+                (λ y. y .1) i ∷ zero-at (at s 11) z (λ y. y .2) i ∷ []) ++ drop 12 s);
             rest = lands (drop 12 s) size (P - 12) (omega arith) (omega arith) (less-twelve _ _ _ k (not-less _ _ (λ w. right (inl w)))) (λ w. right (inr (omega arith, omega arith)))
                 (all-zeros (drop size (drop 12 s)) (λ n. h .clean (is, λ y. n (subst Zeros (ap (λ (j : ℕ). drop (12 + j) s) (sym its-size) ∙ sym (drop-drop size 12 s)) y))));
           }
@@ -251,7 +252,8 @@ module _ (u : Device) (s : List ℕ) (g : given u (out-packet s) 0) where
               flag = either-of (at s 8) 0 2 (λ n. c (inr (inr (inl n))));
             };
             bytes = twelve s (h .long)
-                ∙ (λ i. (is i ∷ sym its-tag i ∷ inverse i ∷ e i ∷ b .0 i ∷ b .1 i ∷ b .2 i ∷ b .3 i ∷ at s 8 ∷ at s 9 ∷ zero-at (at s 10) z (λ y. y .0) i ∷ zero-at (at s 11) z (λ y. y .1) i ∷ []) ++ none-behind long i);
+                ∙ (λ i. (is i ∷ sym its-tag i ∷ inverse i ∷ e i ∷ b .0 i ∷ b .1 i ∷ b .2 i ∷ b .3 i ∷ at s 8 ∷ at s 9 ∷ zero-at (at s 10) z (λ y. y .0) i ∷ zero-at (at s 11) z
+                (λ y. y .1) i ∷ []) ++ none-behind long i);
           }
 
       pub triggers : Triggers s → IsTrigger s
@@ -264,5 +266,7 @@ module _ (u : Device) (s : List ℕ) (g : given u (out-packet s) 0) where
             some = tag-some;
             fits = tag-fits;
             bytes = twelve s (h .long)
-                ∙ (λ i. (is i ∷ sym its-tag i ∷ inverse i ∷ zero-at (at s 3) z (λ y. y .0) i ∷ zero-at (at s 4) z (λ y. y .1) i ∷ zero-at (at s 5) z (λ y. y .2) i ∷ zero-at (at s 6) z (λ y. y .3) i ∷ zero-at (at s 7) z (λ y. y .4) i ∷ zero-at (at s 8) z (λ y. y .5) i ∷ zero-at (at s 9) z (λ y. y .6) i ∷ zero-at (at s 10) z (λ y. y .7) i ∷ zero-at (at s 11) z (λ y. y .8) i ∷ []) ++ none-behind long i);
+                ∙ (λ i. (is i ∷ sym its-tag i ∷ inverse i ∷ zero-at (at s 3) z (λ y. y .0) i ∷ zero-at (at s 4) z (λ y. y .1) i ∷ zero-at (at s 5) z (λ y. y .2) i ∷ zero-at (at s 6) z
+                (λ y. y .3) i ∷ zero-at (at s 7) z (λ y. y .4) i ∷ zero-at (at s 8) z (λ y. y .5) i ∷ zero-at (at s 9) z (λ y. y .6) i ∷ zero-at (at s 10) z
+                (λ y. y .7) i ∷ zero-at (at s 11) z (λ y. y .8) i ∷ []) ++ none-behind long i);
           }

@@ -20,8 +20,10 @@ use Rattle.port.specs.Out.{plain, outcome, planned, accepted as acceptance, out
 use Rattle.port.specs.In.{inRules, poll}
 use Rattle.port.specs.Interrupt.{interruptRules, interruptPoll}
 use Rattle.port.specs.Device.{Device, Result, isSound, made, powerOn}
-use Rattle.port.specs.Calls.{carriedOut, bulkOut, bulkIn, interruptIn, takeRules, taking, take-message, offerRules, offerPlan, offer, thermostatRules, statusSet, setStatus, returned, panel, busReset, suspend}
-use Rattle.port.specs.Step.{Quiet, in-poll, interrupt-poll, offer-reply, set-status, front-panel, bus-suspend, Call, setup-packet, out-packet, take-into, bus-reset, quiet, quietly, soundly, step}
+use Rattle.port.specs.Calls.{withMessage, bulkOut, bulkIn, interruptIn, takeRules, taking, take-message, offerRules, offerPlan}
+use Rattle.port.specs.Calls.{offer, thermostatRules, statusSet, setStatus, returned, panel, busReset, suspend}
+use Rattle.port.specs.Step.{Quiet, in-poll, interrupt-poll, offer-reply, set-status, front-panel, bus-suspend}
+use Rattle.port.specs.Step.{Call, setup-packet, out-packet, take-into, bus-reset, quiet, quietly, soundly, step}
 use Rattle.port.specs.Laws.{Stored, LeftAs}
 use Rattle.port.specs.Trace.{trace, Octets, InOctets, AllInOctets}
 use Rattle.port.specs.When.{given}
@@ -64,14 +66,17 @@ due-open : (due : ℕ) (s : List ℕ) → Not (due ≡ 0) → dueAfter due s ≡
 due-open due s n = at-true _ _ _ (lt-ltb 0 due (omega arith))
 
 pub due-taken : (w : View) (s : List ℕ) (x : View) → Taken w s x → x .left ≡ dueAfter (w .left) s
-due-taken w s x (empty is closed e) = ap (λ (v : View). v .left) e ∙ closed ∙ sym (ap (λ (d : ℕ). dueAfter d s) closed ∙ due-closed s (λ z. let k : _≡_ {A = ℕ} 0 1 = ap (λ (l : List ℕ). at l 0) (sym is) ∙ z in omega arith))
+due-taken w s x (empty is closed e) = ap (λ (v : View). v .left) e ∙ closed
+    ∙ sym (ap (λ (d : ℕ). dueAfter d s) closed ∙ due-closed s (λ z. let k : _≡_ {A = ℕ} 0 1 = ap (λ (l : List ℕ). at l 0) (sym is) ∙ z in omega arith))
 due-taken w s x (other is closed none e) =
     ap (λ (v : View). v .left) e ∙ closed
     ∙ sym (ap (λ (d : ℕ). dueAfter d s) closed
-    ∙ due-closed s (⊎-elim (λ k z. let a : _≡_ {A = ℕ} 2 1 = ap (λ (l : List ℕ). at l 0) (sym (k .bytes)) ∙ z in omega arith) (λ k z. let a : _≡_ {A = ℕ} 128 1 = ap (λ (l : List ℕ). at l 0) (sym (k .bytes)) ∙ z in omega arith) is))
+    ∙ due-closed s (⊎-elim (λ k z. let a : _≡_ {A = ℕ} 2 1 = ap (λ (l : List ℕ). at l 0) (sym (k .bytes)) ∙ z in omega arith)
+    (λ k z. let a : _≡_ {A = ℕ} 128 1 = ap (λ (l : List ℕ). at l 0) (sym (k .bytes)) ∙ z in omega arith) is))
 due-taken w s x (all-at-once o d closed long is fits e) =
     ap (λ (v : View). v .left) e
-    ∙ sym (ap (λ (k : ℕ). dueAfter k s) closed ∙ due-header s (o .tag) (o .size) (o .end) (drop 12 s) (let k = o .room in omega arith) (o .bytes) ∙ (let a = ap length is ∙ aligned-long d in omega arith))
+    ∙ sym (ap (λ (k : ℕ). dueAfter k s) closed ∙ due-header s (o .tag) (o .size) (o .end) (drop 12 s) (let k = o .room in omega arith) (o .bytes)
+    ∙ (let a = ap length is ∙ aligned-long d in omega arith))
 due-taken w s x (begins o closed full less e) =
     ap (λ (v : View). v .left) e ∙ sym (ap (λ (k : ℕ). dueAfter k s) closed ∙ due-header s (o .tag) (o .size) (o .end) (drop 12 s) (let k = o .room in omega arith) (o .bytes))
 due-taken w s x (ends d opened long is fits e) = ap (λ (v : View). v .left) e ∙ sym (due-open (w .left) s opened ∙ (let a = ap length is ∙ aligned-long d in omega arith))
@@ -120,9 +125,11 @@ module _ (u : Device) (sound : isSound u ≡ true) where
       refused = r;
     }
 
-    packet-acts : (x : Outcome) → Facts st p x → given u (out-packet p) (planned st x .verdict .number) → Acts (outOf st .transfer .left) (out-packet p) (carriedOut u p (planned st x) .answer)
+    packet-acts : (x : Outcome) → Facts st p x → given u (out-packet p) (planned st x .verdict .number) → Acts (outOf st .transfer .left) (out-packet p) (withMessage u p (planned st x) .answer)
     unfolding planned acceptance
-    packet-acts (Keep n) f g = quiet-packet _ refl (λ t z. ⊎-elim (λ k. let l = ap length (t .1 .bytes) in let m = k .1 in omega arith) (λ k. let e = accepts-0 p n 0 nothing z k refl in omega arith) f) (λ _. (refl, refl))
+    packet-acts (Keep n) f g =
+        quiet-packet _ refl (λ t z. ⊎-elim (λ k. let l = ap length (t .1 .bytes) in let m = k .1 in omega arith) (λ k. let e = accepts-0 p n 0 nothing z k refl in omega arith) f)
+        (λ _. (refl, refl))
     packet-acts (Halt n) f g = quiet-packet _ refl (λ t z. let e = accepts-0 p n 2 broken-off z f refl in omega arith) (λ _. (refl, refl))
     packet-acts (Data count) f g = quiet-packet _ refl (λ t z. f .0 (t .0)) (λ n. absurd (n refl))
     packet-acts (Accept (Message tag size end) count) f g =
@@ -144,7 +151,8 @@ module _ (u : Device) (sound : isSound u ≡ true) where
     unfolding soundly bulkOut outPlan
     out-acts =
         subst (λ (r : Result). Acts (outOf st .transfer .left) (out-packet p) (r .answer)) (sym (step-sound u (out-packet p) sound))
-        (packet-acts (outcome st p) (outcome-facts st p) (subst (λ (r : Result). given u (out-packet p) (r .answer .verdict .number)) (step-sound u (out-packet p) sound) (rule-for-every u (out-packet p))))
+        (packet-acts (outcome st p) (outcome-facts st p) (subst (λ (r : Result). given u (out-packet p) (r .answer .verdict .number)) (step-sound u (out-packet p) sound)
+        (rule-for-every u (out-packet p))))
 
   -- ** calls that tell nothing
 
@@ -207,7 +215,8 @@ acts-only-on u calls st so i = acting calls u st so i
 
 pub acts-only-on-ever : ActsOnlyOnEver step
 unfolding powerOn made fresh
-acts-only-on-ever setting calls i = subst (λ (n : ℕ). Acting n (trace step (powerOn setting .unit) calls)) none (acting calls (powerOn setting .unit) (power-on-stored setting) (power-on-sound setting) i)
+acts-only-on-ever setting calls i = subst (λ (n : ℕ). Acting n (trace step (powerOn setting .unit) calls)) none
+    (acting calls (powerOn setting .unit) (power-on-stored setting) (power-on-sound setting) i)
   where
     none : outOf (powerOn setting .unit .state) .transfer .left ≡ 0
     none = pick-all (λ (r : Result). outOf (r .unit .state) .transfer .left ≡ 0) (isSize (setting .packet)) _ _ (λ _. refl) (λ _. refl)

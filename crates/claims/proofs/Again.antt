@@ -15,7 +15,9 @@ use Rattle.wire.specs.Setup.{readSetup}
 use Rattle.wire.specs.declared.types.Endpoint.the-variants.{Out, In, Interrupt}
 use Rattle.wire.specs.declared.types.Header.the-variants.{Message, Request, Trigger}
 use Rattle.wire.specs.declared.types.Row.{Row}
-use Rattle.wire.specs.declared.types.Row.the-variants.{InitiateAbortBulkOut, CheckAbortBulkOutStatus, InitiateAbortBulkIn, CheckAbortBulkInStatus, InitiateClear, CheckClearStatus, GetCapabilities, IndicatorPulse, ReadStatusByte, RenControl, GoToLocal, LocalLockout, ClearFeature, SetFeature, GetStatus}
+use Rattle.wire.specs.declared.types.Row.the-variants.{InitiateAbortBulkOut, CheckAbortBulkOutStatus, InitiateAbortBulkIn, CheckAbortBulkInStatus}
+use Rattle.wire.specs.declared.types.Row.the-variants.{InitiateClear, CheckClearStatus, GetCapabilities, IndicatorPulse, ReadStatusByte}
+use Rattle.wire.specs.declared.types.Row.the-variants.{RenControl, GoToLocal, LocalLockout, ClearFeature, SetFeature, GetStatus}
 use Rattle.wire.specs.declared.types.Setup.{Setup}
 use Rattle.wire.specs.declared.types.Setup.the-variants.{Configure, Asks, NoRow}
 use Rattle.port.specs.Parts.{on, packetSize, isOpenOut, isOpenIn, isOwed, isClear, keepsHalt, outOf, inOf, interruptOf, isConfigured, broken, fresh}
@@ -24,10 +26,13 @@ use Rattle.port.specs.Answer.{Answer, Said, refuse}
 use Rattle.port.specs.Out.{plain, outcome, planned, accepted as acceptance, outPlan}
 use Rattle.port.specs.In.{inRules, poll}
 use Rattle.port.specs.Interrupt.{isWaiting, interruptRules, interruptPoll}
-use Rattle.port.specs.Rows.{Reaction, answering, abortRules, outTag, inTag, initiateAbortOut, initiateAbortIn, checkAbortOut, checkAbortIn, initiateClear, checkClear, readStatus, clearFeatureOut, answerRow, effected}
+use Rattle.port.specs.Rows.{Reaction, answering, abortRules, outTag, inTag, initiateAbortOut, initiateAbortIn, checkAbortOut}
+use Rattle.port.specs.Rows.{checkAbortIn, initiateClear, checkClear, readStatus, clearFeatureOut, answerRow, effected}
 use Rattle.port.specs.Device.{Device, Result, isSound, made}
-use Rattle.port.specs.Calls.{bulkOut, bulkIn, interruptIn, setupRules, asked, setupOutcome, answered, setup, takeRules, taking, take-message, offerRules, offerPlan, offer, thermostatRules, statusSet, setStatus, returned, panel, busReset, suspend}
-use Rattle.port.specs.Step.{Quiet, in-poll, interrupt-poll, offer-reply, set-status, front-panel, bus-suspend, SetupPacket, Call, setup-packet, out-packet, take-into, bus-reset, quiet, setup-of, quietly, soundly, step, after}
+use Rattle.port.specs.Calls.{bulkOut, bulkIn, interruptIn, setupRules, asked, setupOutcome, answered, setup, takeRules, taking, take-message}
+use Rattle.port.specs.Calls.{offerRules, offerPlan, offer, thermostatRules, statusSet, setStatus, returned, panel, busReset, suspend}
+use Rattle.port.specs.Step.{Quiet, in-poll, interrupt-poll, offer-reply, set-status, front-panel, bus-suspend, SetupPacket, Call}
+use Rattle.port.specs.Step.{setup-packet, out-packet, take-into, bus-reset, quiet, setup-of, quietly, soundly, step, after}
 use Rattle.port.specs.Laws.{Stored, CHECK-CLEAR-STATUS, Succeeds}
 use Rattle.port.specs.Trace.{trace, Octets, InOctets, AllInOctets}
 use Rattle.port.specs.declared.types.BulkOut.{BulkOut}
@@ -179,10 +184,12 @@ module _ (u : Device) (stored : Stored u) (sound : isSound u ≡ true) (k : Halt
   -- any call
   unheard : (c : Call) → InOctets c → NoBreak (heard c (step u c .answer)) → view (step u c .unit) ≡ view u
   unfolding heard
-  unheard (setup-packet p) i n = subst (λ (h : Heard). Effect (view u) h (view (step u (setup-packet p) .unit))) (setup-nothing (p .packet) (step u (setup-packet p) .answer) n) (effect u stored sound (setup-packet p) i)
+  unheard (setup-packet p) i n = subst (λ (h : Heard). Effect (view u) h (view (step u (setup-packet p) .unit))) (setup-nothing (p .packet) (step u (setup-packet p) .answer) n)
+      (effect u stored sound (setup-packet p) i)
   unheard (out-packet s) i n = subst (λ (h : Heard). Effect (view u) h (view (step u (out-packet s) .unit))) (packet-nothing s) (effect u stored sound (out-packet s) i)
   unheard (take-into room) i n =
-      ⊎-elim (λ e. let h = subst (λ (h : Heard). Effect (view u) h (view (step u (take-into room) .unit))) (at-true _ _ _ e) (effect u stored sound (take-into room) i) in let a = h .ready in let b = k .ready in absurd (omega arith))
+      ⊎-elim (λ e. let h = subst (λ (h : Heard). Effect (view u) h (view (step u (take-into room) .unit))) (at-true _ _ _ e) (effect u stored sound (take-into room) i) in let a = h .ready in
+      let b = k .ready in absurd (omega arith))
       (λ e. subst (λ (h : Heard). Effect (view u) h (view (step u (take-into room) .unit))) (at-false _ _ _ e) (effect u stored sound (take-into room) i))
       (cases (step u (take-into room) .answer .verdict .number =ᵇ 0))
   unheard bus-reset i n =
@@ -283,7 +290,8 @@ command-after-clear u control feature between pieces calls stored sound s unbrok
     let b = between-clean between v st so (success-clean u control sound s) octets unbroken in
     let w = after step v between in
     let same = b .3 ∙ step-size u (setup-of CHECK-CLEAR-STATUS control) stored sound check-octets in
-    arrives (packetSize (u .state)) (command pieces) calls _ (coming (sending (packetSize (u .state)) pieces)) (keeps-stored w (setup-of CLEAR-FEATURE-OUT feature) (b .0)) (keeps-sound w (setup-of CLEAR-FEATURE-OUT feature) (b .1))
+    arrives (packetSize (u .state)) (command pieces) calls _ (coming (sending (packetSize (u .state)) pieces)) (keeps-stored w (setup-of CLEAR-FEATURE-OUT feature) (b .0))
+    (keeps-sound w (setup-of CLEAR-FEATURE-OUT feature) (b .1))
     (step-size w (setup-of CLEAR-FEATURE-OUT feature) (b .0) (b .1) feature-octets ∙ same) later
     (subst (λ (p : ℕ). Serving (view (step w (setup-of CLEAR-FEATURE-OUT feature) .unit)) (Stand p (view (step w (setup-of CLEAR-FEATURE-OUT feature) .unit)) (sending p pieces) (command pieces))) same
     (after-feature w (b .0) (b .1) (b .2) feature pieces sendable done))

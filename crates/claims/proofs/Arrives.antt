@@ -19,15 +19,17 @@ use Rattle.port.specs.Step.{Call, setup-packet, out-packet, take-into, bus-rese
 use Rattle.port.specs.Calls.{takeRules, taking, take-message}
 use Rattle.port.specs.Trace.{trace, InOctets, AllInOctets}
 use Rattle.port.specs.Laws.{Stored}
+use Rattle.port.proofs.Sizes.{Size, size-of}
 use Rattle.port.proofs.Soundness.{sound-of}
 use Rattle.port.proofs.KeepsOut.{out-held}
 use Rattle.port.proofs.Calls.{step-sound, keeps-sound, keeps-stored}
 use Rattle.port.proofs.When.{rule-for-every}
 use Rattle.claims.specs.Command.{Piece, command, Sendable, sending}
 use Rattle.claims.specs.Wire.{Heard, nothing, heardPacket, heardSetup, heard}
-use Rattle.claims.specs.Arrival.{Stage, older, coming, over, Next, ahead, NoBreak, MayCome, packetDue, takeDue, Due, sentOn, takenOn, onward, Arrives, stageOf}
+use Rattle.claims.specs.Arrival.{Stage, older, coming, over, Next, ahead, NoBreak, MayCome, packetDue}
+use Rattle.claims.specs.Arrival.{takeDue, Due, sentOn, takenOn, onward, Arrives, stageOf}
 use Rattle.claims.specs.Claims.{WholeCommand}
-use Rattle.claims.proofs.Cuts.{size-fours, packets-none}
+use Rattle.claims.proofs.Cuts.{packets-none}
 use Rattle.claims.proofs.Accepted.{not-less}
 use Rattle.claims.proofs.Effects.{View, view, holds, Handed, Effect}
 use Rattle.claims.proofs.Steps.{effect}
@@ -52,7 +54,8 @@ setup-nothing s a =
 -- a packet keeps what it is not about
 landing-keeps : (w : View) (s : List ℕ) → (landing w s .configured ≡ w .configured) × (landing w s .halted ≡ w .halted)
 unfolding landing
-landing-keeps w s = pick-all Q _ _ _ (λ _. pick-all Q _ _ _ (λ _. pick-all Q _ _ _ (λ _. (refl, refl)) (λ _. (refl, refl))) (λ _. (refl, refl))) (λ _. pick-all Q _ _ _ (λ _. (refl, refl)) (λ _. (refl, refl)))
+landing-keeps w s = pick-all Q _ _ _ (λ _. pick-all Q _ _ _ (λ _. pick-all Q _ _ _ (λ _. (refl, refl)) (λ _. (refl, refl))) (λ _. (refl, refl)))
+    (λ _. pick-all Q _ _ _ (λ _. (refl, refl)) (λ _. (refl, refl)))
   where
     Q : View → Type 0
     Q v = (v .configured ≡ w .configured) × (v .halted ≡ w .halted)
@@ -78,8 +81,8 @@ module _ (P : ℕ) (m : List ℕ) where
     f : Fine (packetSize (u .state)) w
     f = fine u stored sound
 
-    sizes : (P % 4 ≡ 0) × (16 ≤ P)
-    sizes = size-fours P (subst (λ (p : ℕ). isSize p ≡ true) same (sound-of (u .state) sound .port .size))
+    sizes : Size P
+    sizes = size-of P (subst (λ (p : ℕ). isSize p ≡ true) same (sound-of (u .state) sound .port .size))
 
     held-is : outOf (u .state) .message .held ≡ length (w .held)
     held-is = let h = out-held (u .state) (sound-of (u .state) sound) in let k = length-take (outOf (u .state) .message .held) (u .message) in let l = stored .message in omega arith
@@ -111,10 +114,11 @@ module _ (P : ℕ) (m : List ℕ) where
       pub taken-in : (q : List (List ℕ)) (t : List ℕ) → w .ready ≡ 0 → Follows P (w .left) (w .end) (length (w .held)) (s ∷ q) t → w .held ++ t ≡ m → (n ≡ 0) × (x ≡ landing w s) × Stand P x q m
       unfolding heardPacket pick
       taken-in q t unready k whole =
-          let fp = first-packet P (sizes .0) (sizes .1) (w .left) (w .end) (length (w .held)) s q t k in
-          let fits = first-fits P (sizes .0) (sizes .1) (w .left) (w .end) (length (w .held)) s q t fp in
+          let fp = first-packet P (sizes .fours) (sizes .least) (w .left) (w .end) (length (w .held)) s q t k in
+          let fits = first-fits P (sizes .fours) (sizes .least) (w .left) (w .end) (length (w .held)) s q t fp in
           let own : First (packetSize (u .state)) (w .left) (w .end) (length (w .held)) s q t = subst (λ (p : ℕ). First p (w .left) (w .end) (length (w .held)) s q t) (sym same) fp in
-          let e = first-done u s n (rule-for-every u (out-packet s)) sound configured running (omega arith) unready (w .end) (length (w .held)) q t (ap (λ (p : ℕ). p % 4) same ∙ sizes .0) (let b = sizes .1 in omega arith) held-is own in
+          let e = first-done u s n (rule-for-every u (out-packet s)) sound configured running (omega arith) unready (w .end) (length (w .held)) q t (ap (λ (p : ℕ). p % 4) same ∙ sizes .fours)
+          (let b = sizes .least in omega arith) held-is own in
           let l = taken-landing w s x (its-effect 0 e .1) in
           (e, l, subst (λ (v : View). Stand P v q m) (sym l) (stand-on P w q m s t flag unready whole fp))
 
@@ -138,7 +142,8 @@ module _ (P : ℕ) (m : List ℕ) where
       unfolding heard
       handed e = subst (λ (h : Heard). Effect w h y) (at-true _ _ _ e) take-effect
 
-      take-gate : ((a .verdict .number ≡ 16) × Not (w .ready ≡ 1)) ⊎ (Not (Not (w .ready ≡ 1)) × (((a .verdict .number ≡ 3) × (room < outOf (u .state) .message .held)) ⊎ (Not (room < outOf (u .state) .message .held) × (a .verdict .number ≡ 0))))
+      take-gate : ((a .verdict .number ≡ 16) × Not (w .ready ≡ 1)) ⊎
+          (Not (Not (w .ready ≡ 1)) × (((a .verdict .number ≡ 3) × (room < outOf (u .state) .message .held)) ⊎ (Not (room < outOf (u .state) .message .held) × (a .verdict .number ≡ 0))))
       take-gate =
           let g = rule-for-every u (take-into room) in
           let b = skip g (λ e. true≢false (sym sound ∙ e)) in
@@ -173,16 +178,16 @@ module _ (P : ℕ) (m : List ℕ) where
 
     out-one : (g : Stage) (s : List ℕ) → InOctets (out-packet s) → Standing g w → Next P (ahead g) s
         → packetDue g (step u (out-packet s) .answer .verdict .number) × Standing (sentOn g) (view (step u (out-packet s) .unit))
-    out-one (older []) s i k may = absurd (something-ahead P (sizes .0) (sizes .1) 0 0 0 m (λ _. refl) (k .at .1))
+    out-one (older []) s i k may = absurd (something-ahead P (sizes .fours) (sizes .least) 0 0 0 m (λ _. refl) (k .at .1))
     out-one (older (p ∷ ps)) s i k may =
-        let fp = first-packet P (sizes .0) (sizes .1) 0 0 0 p ps m (k .at .1) in
-        let fits = first-fits P (sizes .0) (sizes .1) 0 0 0 p ps m fp in
+        let fp = first-packet P (sizes .fours) (sizes .least) 0 0 0 p ps m (k .at .1) in
+        let fits = first-fits P (sizes .fours) (sizes .least) 0 0 0 p ps m fp in
         let v = waiting s i (k .configured) (k .running) (subst (λ (l : List ℕ). length l ≤ P) (sym may) fits) (k .at .0) in
         (v .0, stands-by (older (p ∷ ps)) _ (v .1) k)
     out-one (coming []) s i k may = by (k .at)
       where
         by : Stand P w [] m → (step u (out-packet s) .answer .verdict .number ≡ 5) × Standing (coming []) (view (step u (out-packet s) .unit))
-        by (lacks t unready g whole) = absurd (something-ahead P (sizes .0) (sizes .1) (w .left) (w .end) (length (w .held)) t (f .resting) g)
+        by (lacks t unready g whole) = absurd (something-ahead P (sizes .fours) (sizes .least) (w .left) (w .end) (length (w .held)) t (f .resting) g)
         by (has-all r none is) = let v = waiting s i (k .configured) (k .running) may r in (v .0, stands-by (coming []) _ (v .1) k)
     out-one (coming (p ∷ ps)) s i k may = by (k .at)
       where
@@ -203,19 +208,30 @@ module _ (P : ℕ) (m : List ℕ) where
           let h = handed room (k .configured) e in
           let closed = f .closed (k .at .0) in
           let unmarked = f .resting closed in
-          let start : Stand P (holds w [] (w .left) (w .end) 0) ps m = lacks m refl (subst (λ (j : ℕ). Follows P j (w .end) 0 ps m) (sym closed) (subst (λ (j : ℕ). Follows P 0 j 0 ps m) (sym unmarked) (k .at .1))) refl in
-          record { configured = ap (λ (v : View). v .configured) (h .after) ∙ k .configured; running = ap (λ (v : View). v .halted) (h .after) ∙ k .running; at = subst (λ (v : View). Stand P v ps m) (sym (h .after)) start })
+          let start : Stand P (holds w [] (w .left) (w .end) 0) ps m =
+          lacks m refl (subst (λ (j : ℕ). Follows P j (w .end) 0 ps m) (sym closed) (subst (λ (j : ℕ). Follows P 0 j 0 ps m) (sym unmarked) (k .at .1))) refl in
+          record {
+            configured = ap (λ (v : View). v .configured) (h .after) ∙ k .configured;
+            running = ap (λ (v : View). v .halted) (h .after)
+                ∙ k .running;
+            at = subst (λ (v : View). Stand P v ps m) (sym (h .after)) start;
+          })
           (λ e. stands-by (older ps) _ (refused-still room (k .configured) e) k),
     )
     take-one (coming []) room k = by (k .at)
       where
-        by : Stand P w [] m → takeDue m (coming []) room (step u (take-into room) .answer) × Standing (pick (step u (take-into room) .answer .verdict .number =ᵇ 0) over (coming [])) (view (step u (take-into room) .unit))
-        by (lacks t unready g whole) = absurd (something-ahead P (sizes .0) (sizes .1) (w .left) (w .end) (length (w .held)) t (f .resting) g)
-        by (has-all r none is) =
-            (given-whole room (k .configured) r is, pick-all (λ (g : Stage). Standing g (view (step u (take-into room) .unit))) _ _ _ (λ _. tt) (λ e. stands-by (coming []) _ (refused-still room (k .configured) e) k))
+        by : Stand P w [] m → takeDue m (coming []) room (step u (take-into room) .answer) × Standing (pick (step u (take-into room) .answer .verdict .number =ᵇ 0) over (coming []))
+            (view (step u (take-into room) .unit))
+        by (lacks t unready g whole) = absurd (something-ahead P (sizes .fours) (sizes .least) (w .left) (w .end) (length (w .held)) t (f .resting) g)
+        by (has-all r none is) = (
+          given-whole room (k .configured) r is,
+          pick-all (λ (g : Stage). Standing g (view (step u (take-into room) .unit))) _ _ _ (λ _. tt)
+              (λ e. stands-by (coming []) _ (refused-still room (k .configured) e) k),
+        )
     take-one (coming (p ∷ ps)) room k = by (k .at)
       where
-        by : Stand P w (p ∷ ps) m → (step u (take-into room) .answer .verdict .number ≡ 16) × Standing (pick (step u (take-into room) .answer .verdict .number =ᵇ 0) over (coming (p ∷ ps))) (view (step u (take-into room) .unit))
+        by : Stand P w (p ∷ ps) m → (step u (take-into room) .answer .verdict .number ≡ 16) × Standing (pick (step u (take-into room) .answer .verdict .number =ᵇ 0) over (coming (p ∷ ps)))
+            (view (step u (take-into room) .unit))
         by (lacks t unready g whole) =
             let e = nothing-yet room (k .configured) unready in
             let z : (step u (take-into room) .answer .verdict .number =ᵇ 0) ≡ false = ne-eqb (step u (take-into room) .answer .verdict .number) 0 (λ z. omega arith) in
@@ -225,8 +241,11 @@ module _ (P : ℕ) (m : List ℕ) where
 
     one : (g : Stage) (c : Call) → InOctets c → Standing g w → MayCome P g c (step u c .answer) → Due m g c (step u c .answer) × Standing (onward g c (step u c .answer)) (view (step u c .unit))
     unfolding heard
-    one g (setup-packet p) i k may =
-        (tt, stands-by g _ (subst (λ (h : Heard). Effect w h (view (step u (setup-packet p) .unit))) (setup-nothing (p .packet) (step u (setup-packet p) .answer) may) (effect u stored sound (setup-packet p) i)) k)
+    one g (setup-packet p) i k may = (
+      tt,
+      stands-by g _ (subst (λ (h : Heard). Effect w h (view (step u (setup-packet p) .unit))) (setup-nothing (p .packet) (step u (setup-packet p) .answer) may)
+          (effect u stored sound (setup-packet p) i)) k,
+    )
     one g (out-packet s) i k may = out-one g s i k may
     one g (take-into room) i k may = take-one g room k
     one g bus-reset i k may = absurd may

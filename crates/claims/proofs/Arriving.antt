@@ -30,9 +30,11 @@ use Rattle.port.specs.In.{Packet, fixed, started, gone, send, nextPacket, inRul
 use Rattle.port.specs.Interrupt.{isWaiting, interruptRules, interruptPoll}
 use Rattle.port.specs.Rows.{Reaction, checkAbortOut, checkAbortIn, checkClear, readStatus, answerRow, effected}
 use Rattle.port.specs.Device.{Device, Result, isSound, unsentOf}
-use Rattle.port.specs.Calls.{bulkOut, bulkIn, interruptIn, setupRules, asked as asks-for, setupOutcome, answered, setup, takeRules, taking, take-message, offerRules, offered, offerPlan, withReply, offer}
+use Rattle.port.specs.Calls.{bulkOut, bulkIn, interruptIn, setupRules, asked as asks-for, setupOutcome, answered, setup}
+use Rattle.port.specs.Calls.{takeRules, taking, take-message, offerRules, offered, offerPlan, withReply, offer}
 use Rattle.port.specs.Calls.{thermostatRules, statusSet, setStatus, returned, panel, suspend}
-use Rattle.port.specs.Step.{Quiet, in-poll, interrupt-poll, offer-reply, set-status, front-panel, bus-suspend, Call, setup-packet, out-packet, take-into, bus-reset, quiet, quietly, soundly, step}
+use Rattle.port.specs.Step.{Quiet, in-poll, interrupt-poll, offer-reply, set-status, front-panel, bus-suspend}
+use Rattle.port.specs.Step.{Call, setup-packet, out-packet, take-into, bus-reset, quiet, quietly, soundly, step}
 use Rattle.port.specs.Trace.{Event, trace}
 use Rattle.port.specs.Laws.{Stored}
 use Rattle.port.specs.When.{Unsound, Unconfigured, InOpen, Owed, ReplyStored, ofHeader, given}

@@ -10,14 +10,17 @@ use Rattle.rules.specs.Answers.{DONE, only}
 use Rattle.rules.proofs.Choice.{pick-all, decide-all}
 use Rattle.wire.specs.declared.types.Endpoint.the-variants.{Out, In, Interrupt}
 use Rattle.wire.specs.declared.types.Row.{Row}
-use Rattle.wire.specs.declared.types.Row.the-variants.{InitiateAbortBulkOut, CheckAbortBulkOutStatus, InitiateAbortBulkIn, CheckAbortBulkInStatus, InitiateClear, CheckClearStatus, GetCapabilities, IndicatorPulse, ReadStatusByte, RenControl, GoToLocal, LocalLockout, ClearFeature, SetFeature, GetStatus}
+use Rattle.wire.specs.declared.types.Row.the-variants.{InitiateAbortBulkOut, CheckAbortBulkOutStatus, InitiateAbortBulkIn, CheckAbortBulkInStatus}
+use Rattle.wire.specs.declared.types.Row.the-variants.{InitiateClear, CheckClearStatus, GetCapabilities, IndicatorPulse, ReadStatusByte}
+use Rattle.wire.specs.declared.types.Row.the-variants.{RenControl, GoToLocal, LocalLockout, ClearFeature, SetFeature, GetStatus}
 use Rattle.port.specs.Parts.{on, isOpenOut, isOpenIn, isOwed, isClear, packetSize, outOf, inOf, interruptOf, isConfigured}
 use Rattle.port.specs.Remote.{localNow}
 use Rattle.port.specs.Answer.{Said, refuse}
 use Rattle.port.specs.Out.{plain}
 use Rattle.port.specs.In.{inRules, poll}
 use Rattle.port.specs.Interrupt.{isWaiting, interruptRules, interruptPoll}
-use Rattle.port.specs.Rows.{Reaction, answering, abortRules, outTag, inTag, initiateAbortOut, initiateAbortIn, checkAbortOut, checkAbortIn, initiateClear, checkClear, readStatus, answerRow, effected}
+use Rattle.port.specs.Rows.{Reaction, answering, abortRules, outTag, inTag, initiateAbortOut, initiateAbortIn, checkAbortOut}
+use Rattle.port.specs.Rows.{checkAbortIn, initiateClear, checkClear, readStatus, answerRow, effected}
 use Rattle.port.specs.Device.{Device, withState}
 use Rattle.port.specs.Calls.{bulkIn, interruptIn, offerRules, offerPlan, withReply, offer, thermostatRules, statusSet, setStatus, returned, panel, suspend}
 use Rattle.port.specs.Step.{Quiet, in-poll, interrupt-poll, offer-reply, set-status, front-panel, bus-suspend, quietly}

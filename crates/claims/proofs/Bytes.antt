@@ -8,7 +8,8 @@ use native.Mathlib.Omega.{arith}
 use borrow.Author.Tests.{ltb-true}
 use Rattle.rules.specs.Choice.{_<ᵇ_, _and_}
 use Rattle.rules.proofs.Choice.{both-left, both-right}
-use Rattle.port.specs.Step.{Quiet, in-poll, interrupt-poll, offer-reply, set-status, front-panel, bus-suspend, Call, setup-packet, out-packet, take-into, bus-reset, quiet}
+use Rattle.port.specs.Step.{Quiet, in-poll, interrupt-poll, offer-reply, set-status, front-panel, bus-suspend}
+use Rattle.port.specs.Step.{Call, setup-packet, out-packet, take-into, bus-reset, quiet}
 use Rattle.port.specs.Trace.{Octets, QuietInOctets, InOctets, AllInOctets}
 
 abbrev pub small : List ℕ → Bool

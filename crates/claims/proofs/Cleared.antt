@@ -12,13 +12,14 @@ use borrow.Author.Tests.{eqb-true, eqb-false, le-ltb, ltb-false}
 use Rattle.rules.specs.Choice.{no, pick, _≠ᵇ_}
 use Rattle.rules.specs.Answers.{DONE}
 use Rattle.rules.proofs.Choice.{at-true, pick-all, decide-lines, decide-none, not-no, none-right, or-none, eq-neb}
-use Rattle.wire.specs.Header.{OFF, ON}
+use Rattle.rules.specs.Flags.{OFF, ON}
 use Rattle.wire.specs.Setup.{SETUP, CONTROL, readSetup}
 use Rattle.wire.specs.declared.types.Endpoint.the-variants.{Out}
 use Rattle.wire.specs.declared.types.Row.the-variants.{CheckClearStatus, SetFeature}
 use Rattle.wire.specs.declared.types.Setup.{Setup}
 use Rattle.wire.specs.declared.types.Setup.the-variants.{Configure, Asks}
-use Rattle.port.specs.Parts.{STORE, CLOSED, OWED, isSize, isOwed, isClear, packetSize, portOf, outOf, inOf, interruptOf, isConfigured, transferIn, closedIn, withSplit, emptyOut, emptyIn, fresh, broken, haltedOut}
+use Rattle.port.specs.Parts.{STORE, CLOSED, OWED, isSize, isOwed, isClear, packetSize, portOf, outOf, inOf, interruptOf}
+use Rattle.port.specs.Parts.{isConfigured, transferIn, closedIn, withSplit, emptyOut, emptyIn, fresh, broken, haltedOut}
 use Rattle.port.specs.Sound.{sound}
 use Rattle.port.specs.Rows.{Reaction, answering, checkClear, answerRow, effected, reacted}
 use Rattle.port.specs.Device.{Device, Result, isSound, withState, zeroed, made, powerOn}
@@ -55,7 +56,8 @@ same-run (c ∷ later) u v su sv hu hv e =
 
 -- ** the fresh unit, as its calls make it
 
-pub serves : (u : Device) (s : List ℕ) (control : ℕ) (x : Setup) → isSound u ≡ true → length s ≡ SETUP → CONTROL ≤ control → readSetup s ≡ x → step u (setup-of s control) ≡ answered u (asked (u .state) x)
+pub serves : (u : Device) (s : List ℕ) (control : ℕ) (x : Setup) → isSound u ≡ true → length s ≡ SETUP → CONTROL ≤ control → readSetup s ≡ x → step u (setup-of s control) ≡ answered u
+    (asked (u .state) x)
 unfolding soundly setup setupOutcome
 serves u s control x h long fits reads =
     step-sound u (setup-of s control) h
@@ -83,11 +85,14 @@ module _ (p : ℕ) (size : isSize p ≡ true) where
 
   configured-now : step (made setting OFF) (setup-of SET-CONFIGURATION-1 CONTROL) .unit ≡ made setting ON
   unfolding made answered asked fresh
-  configured-now = ap (λ (r : Result). r .unit) (serves (made setting OFF) SET-CONFIGURATION-1 CONTROL (Configure 1) (sound-to _ (fresh-sound setting OFF size (omega arith))) refl (omega arith) read-configure)
+  configured-now =
+      ap (λ (r : Result). r .unit) (serves (made setting OFF) SET-CONFIGURATION-1 CONTROL (Configure 1) (sound-to _ (fresh-sound setting OFF size (omega arith))) refl
+      (omega arith) read-configure)
 
   halted-now : step (made setting ON) (setup-of SET-FEATURE-OUT CONTROL) .unit ≡ withState (made setting ON) (haltedOut (fresh setting ON))
   unfolding made answered asked answerRow effected fresh pick
-  halted-now = ap (λ (r : Result). r .unit) (serves (made setting ON) SET-FEATURE-OUT CONTROL (Asks (SetFeature Out)) (sound-to _ (fresh-sound setting ON size (omega arith))) refl (omega arith) read-halt)
+  halted-now = ap (λ (r : Result). r .unit) (serves (made setting ON) SET-FEATURE-OUT CONTROL (Asks (SetFeature Out)) (sound-to _ (fresh-sound setting ON size (omega arith))) refl
+      (omega arith) read-halt)
 
   pub halted-is : halted p ≡ withState (made setting ON) (haltedOut (fresh setting ON))
   unfolding halted after
@@ -221,7 +226,8 @@ module _ (u : Device) (control : ℕ) (h : Sound (u .state)) (r : Result) (c : C
   pub fresh-sound-too : Stored u → isSound (withState u (withSplit (u .state) None)) ≡ true → isSound (freshUnit (packetSize (u .state)) (survivors (u .state))) ≡ true
   fresh-sound-too stored e =
       subst (λ (d : Device). isSound (resumed (survivors (u .state)) d) ≡ true) (sym (halted-is (packetSize (u .state)) (h .port .size)))
-      (subst (λ (st : State). sound st ≡ true) (ap (λ (l : Live). l .state) to-made ∙ made-live) (live-sound (withState u (withSplit (u .state) None)) (record { message = stored .message; reply = stored .reply }) (sound-of _ e)))
+      (subst (λ (st : State). sound st ≡ true) (ap (λ (l : Live). l .state) to-made ∙ made-live)
+      (live-sound (withState u (withSplit (u .state) None)) (record { message = stored .message; reply = stored .reply }) (sound-of _ e)))
     where
       live-sound : (d : Device) → Stored d → Sound (d .state) → sound (live d .state) ≡ true
       live-sound d st q = alive-is d (sound-to _ (alive-sound d st q))

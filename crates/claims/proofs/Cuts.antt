@@ -9,14 +9,9 @@ use native.Mathlib.Omega.{arith}
 use lib.ListN.{length, take, drop, replicate, length-append, length-take, length-drop, length-replicate, take-append-drop, drop-of-length-le}
 use lib.Seq.{take-at, drop-at, take-all}
 use borrow.Author.Tests.{eqb-true}
-use Rattle.rules.proofs.Choice.{either}
 use Rattle.wire.specs.When.{Zeros}
-use Rattle.port.specs.Parts.{FULL-SPEED, HIGH-SPEED, isSize}
 use Rattle.port.specs.When.{padded}
 use Rattle.claims.specs.Command.{aligned, cutUp, packets}
-
-pub size-fours : (p : ℕ) → isSize p ≡ true → (p % 4 ≡ 0) × (16 ≤ p)
-size-fours p e = ⊎-elim (λ h. let f = eqb-true p FULL-SPEED h in (ap (λ (n : ℕ). n % 4) f, omega arith)) (λ h. let f = eqb-true p HIGH-SPEED h in (ap (λ (n : ℕ). n % 4) f, omega arith)) (either _ _ e)
 
 -- ** packets
 

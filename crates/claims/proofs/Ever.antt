@@ -27,7 +27,8 @@ use Rattle.port.specs.declared.types.SetupOutcome.the-variants.{Denies}
 use Rattle.port.proofs.Opened.{computed}
 use Rattle.port.proofs.Calls.{power-on-sound, power-on-stored, step-sound}
 use Rattle.claims.specs.Command.{command, sending, Others}
-use Rattle.claims.specs.Wire.{Heard, nothing, accepted, broken-off, wiped-out, handed-over, heardOf, acceptedOf, acceptedIn, Passes, Unbroken, Divides, Divided, sinceBy, acceptedSince}
+use Rattle.claims.specs.Wire.{Heard, nothing, accepted, broken-off, wiped-out, handed-over, heardOf, acceptedOf}
+use Rattle.claims.specs.Wire.{acceptedIn, Passes, Unbroken, Divides, Divided, sinceBy, acceptedSince}
 use Rattle.claims.specs.Handed.{begun}
 use Rattle.claims.specs.Arrival.{older, coming, Arrives}
 use Rattle.claims.specs.Fresh.{GET-STATUS-OUT}
@@ -46,7 +47,8 @@ since-append ps (e ∷ a) b = since-append (sinceBy ps (heardOf e)) a b
 
 since-unbroken : (ps : List (List ℕ)) (b : List Event) → Unbroken b → acceptedSince ps b ≡ ps ++ acceptedIn b
 since-unbroken ps [] u = sym (append-nil ps)
-since-unbroken ps (e ∷ b) u = since-unbroken (sinceBy ps (heardOf e)) b (u .1) ∙ ap (λ (l : List (List ℕ)). l ++ acceptedIn b) (one (heardOf e) (u .0)) ∙ append-assoc ps (acceptedOf (heardOf e)) (acceptedIn b)
+since-unbroken ps (e ∷ b) u = since-unbroken (sinceBy ps (heardOf e)) b (u .1) ∙ ap (λ (l : List (List ℕ)). l ++ acceptedIn b) (one (heardOf e) (u .0))
+    ∙ append-assoc ps (acceptedOf (heardOf e)) (acceptedIn b)
   where
     one : (h : Heard) → Passes h → sinceBy ps h ≡ ps ++ acceptedOf h
     one nothing p = sym (append-nil ps)
@@ -116,7 +118,12 @@ whole-command-ever setting before control pieces calls octets says others sendab
     by (idle ps k o held left end r) runs st so =
         let P = packetSize (after step (powerOn setting .unit) before .state) in
         inr (arrives P (command pieces) calls _ (coming (sending P pieces)) st so refl later
-        (record { configured = runs .0; running = runs .1; at = lacks (command pieces) r (follows-as P 0 _ 0 _ 0 _ _ _ (sym left) (sym end) (sym (ap length held)) (starts-following P pieces sendable)) (ap (λ (l : List ℕ). l ++ command pieces) held) }))
+        (record {
+          configured = runs .0;
+          running = runs .1;
+          at = lacks (command pieces) r
+              (follows-as P 0 _ 0 _ 0 _ _ _ (sym left) (sym end) (sym (ap length held)) (starts-following P pieces sendable)) (ap (λ (l : List ℕ). l ++ command pieces) held);
+        }))
     by (partly ps k becomes some n r) runs st so = absurd (n (subst Others (since-is _ ps k) others))
     by (partly-from ps from k becomes some r) runs st so = absurd from
     by (ready source r) runs st so =

@@ -101,7 +101,8 @@ module _ (P : ℕ) (front d : List ℕ) (fours : P % 4 ≡ 0) (front-fours : len
           → (r : List ℕ) × (s ≡ front ++ r) × Bit P room (length d) end n r q t
       by-some (less, long, e) =
           let k = are ∙ ap (λ (l : List (List ℕ)). l ++ sending P ps) e in
-          let parted : t ≡ take room d ++ (drop room d ++ command ps) = data-are ∙ ap (λ (l : List ℕ). l ++ command ps) (sym (take-append-drop room d)) ∙ append-assoc (take room d) (drop room d) (command ps) in
+          let parted : t ≡ take room d ++ (drop room d ++ command ps) =
+          data-are ∙ ap (λ (l : List ℕ). l ++ command ps) (sym (take-append-drop room d)) ∙ append-assoc (take room d) (drop room d) (command ps) in
           let m = length-append (take room d) (drop room d ++ command ps) in (
             take room d,
             head-eq-of-cons-eq k,

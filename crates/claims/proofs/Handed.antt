@@ -17,13 +17,13 @@ use Rattle.port.specs.Trace.{Event, trace, InOctets, AllInOctets}
 use Rattle.port.specs.Laws.{Stored}
 use Rattle.port.specs.declared.types.Setting.{Setting}
 use Rattle.port.specs.declared.types.BulkOut.{BulkOut}
+use Rattle.port.proofs.Sizes.{size-of}
 use Rattle.port.proofs.Soundness.{sound-of}
 use Rattle.port.proofs.KeepsOut.{cases, out-held}
 use Rattle.port.proofs.Calls.{power-on-sound, power-on-stored, keeps-sound, keeps-stored}
 use Rattle.claims.specs.Wire.{Heard, nothing, accepted, broken-off, wiped-out, handed-over, heard, heardOf}
 use Rattle.claims.specs.Handed.{Brought, Begun, Finished, Allowed, Legal, begun}
 use Rattle.claims.specs.Claims.{NoHalfCommand, NoHalfCommandEver}
-use Rattle.claims.proofs.Cuts.{size-fours}
 use Rattle.claims.proofs.Effects.{View, view, Taken, empty, other, all-at-once, begins, ends, goes-on, Effect}
 use Rattle.claims.proofs.Steps.{effect}
 use Rattle.claims.proofs.Follows.{nil, none-sent}
@@ -38,7 +38,8 @@ module _ (u : Device) (stored : Stored u) (sound : isSound u ≡ true) where
       let o = outOf (u .state) in
       record {
         same = refl;
-        flag = ⊎-elim (λ k. inl (k .1 .unready)) (λ k. ⊎-elim (λ e. inr (eqb-true (o .message .ready) 1 e)) (λ e. inl (let n = eqb-false (o .message .ready) 1 e in let f = k .1 .ready in omega arith)) (cases (o .message .ready =ᵇ 1))) s;
+        flag = ⊎-elim (λ k. inl (k .1 .unready)) (λ k. ⊎-elim (λ e. inr (eqb-true (o .message .ready) 1 e))
+            (λ e. inl (let n = eqb-false (o .message .ready) 1 e in let f = k .1 .ready in omega arith)) (cases (o .message .ready =ᵇ 1))) s;
         closed = λ r. ⊎-elim (λ k. let z = k .1 .unready in absurd (omega arith)) (λ k. k .0) s;
         resting = λ e. ⊎-elim (λ k. absurd (k .0 e)) (λ k. k .1 .end) s;
         fits = let h = out-held (u .state) (sound-of (u .state) sound) in let k = length-take (o .message .held) (u .message) in omega arith;
@@ -74,9 +75,9 @@ module _ (P : ℕ) (b : Begun) (From : Type 0) where
       → let e : Event = record { call = c; answer = step u c .answer } in Allowed Source es (heardOf e) × Known P b From (es ++ (e ∷ [])) (view (step u c .unit))
   one-on c u es st so size i k =
       let v = step u c .unit in
-      let big = size-fours P (subst (λ (p : ℕ). isSize p ≡ true) size (sound-of (u .state) so .port .size)) in
+      let big = size-of P (subst (λ (p : ℕ). isSize p ≡ true) size (sound-of (u .state) so .port .size)) in
       let e : Event = record { call = c; answer = step u c .answer } in
-      event-on P b From es e (big .1) (big .0) (view u) (view v) (subst (λ (p : ℕ). Fine p (view u)) size (fine u st so))
+      event-on P b From es e (big .least) (big .fours) (view u) (view v) (subst (λ (p : ℕ). Fine p (view u)) size (fine u st so))
       (subst (λ (p : ℕ). Fine p (view v)) (step-size u c st so i ∙ size) (fine v (keeps-stored u c st) (keeps-sound u c so))) (heardOf e) refl (effect u st so c i) k
 
   legal : (calls : List Call) (u : Device) (es : List Event) → Stored u → isSound u ≡ true → packetSize (u .state) ≡ P → AllInOctets calls → Known P b From es (view u)
@@ -120,7 +121,8 @@ module _ (u : Device) (stored : Stored u) (sound : isSound u ≡ true) where
       let f = fine u stored sound in
       let w = view u in
       ⊎-elim (λ r. ⊎-elim
-      (λ z. let closed = fine-closed z in idle [] (record { earlier = []; bringing = []; stretches = refl; first = tt; unbroken = tt; packets = refl }) tt (nil (w .held) (eqb-true _ _ z)) closed (f .resting closed) r)
+      (λ z. let closed = fine-closed z in idle [] (record { earlier = []; bringing = []; stretches = refl; first = tt; unbroken = tt; packets = refl }) tt
+      (nil (w .held) (eqb-true _ _ z)) closed (f .resting closed) r)
       (λ z. partly-from [] tt (record { unbroken = tt; packets = refl }) (λ q t k. record {
         rest = k .rest;
         pieces = k .pieces;

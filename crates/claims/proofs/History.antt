@@ -11,7 +11,8 @@ use Rattle.rules.specs.When.{Not}
 use Rattle.wire.specs.When.{at}
 use Rattle.port.specs.Trace.{Event}
 use Rattle.claims.specs.Command.{Piece, command, Good, header, mark, IsRequest, IsTrigger, Others}
-use Rattle.claims.specs.Wire.{Heard, nothing, accepted, broken-off, wiped-out, handed-over, heardOf, acceptedOf, acceptedIn, Passes, Unbroken, Leaves, Waits, Divides, Divided}
+use Rattle.claims.specs.Wire.{Heard, nothing, accepted, broken-off, wiped-out, handed-over, heardOf, acceptedOf}
+use Rattle.claims.specs.Wire.{acceptedIn, Passes, Unbroken, Leaves, Waits, Divides, Divided}
 use Rattle.claims.specs.Handed.{Whole, Brought, Begun, Rest, Finished, Allowed}
 use Rattle.claims.proofs.Effects.{View, Taken, empty, other, all-at-once, begins, ends, goes-on, Broken, Handed, Effect}
 use Rattle.claims.proofs.Follows.{Follows, nothing-left, between, one-more-empty, header-whole, header-part, data-whole, data-part}
@@ -263,7 +264,8 @@ module _ (P : ℕ) (b : Begun) (From : Type 0) where
       -- a break or a message: nothing is held, and a new stretch begins
       anew : Divides h → (x : View) → x .held ≡ [] → x .left ≡ 0 → x .end ≡ 0 → x .ready ≡ 0 → Known es′ x
       anew d x held left end unready =
-          idle [] (record { earlier = es′; bringing = []; stretches = sym (append-nil es′); first = divided-snoc es e (subst Divides (sym is) d); unbroken = tt; packets = refl }) tt held left end unready
+          idle [] (record { earlier = es′; bringing = []; stretches = sym (append-nil es′); first = divided-snoc es e (subst Divides (sym is) d); unbroken = tt; packets = refl }) tt held
+          left end unready
 
     -- ** an accepted packet
 
@@ -314,13 +316,15 @@ module _ (P : ℕ) (b : Begun) (From : Type 0) where
       accepted-on unready t (partly ps k becomes some n r) =
           ⊎-elim (on-since ps k becomes (λ o. n (others-front ps s o)))
           (λ f. ⊎-elim
-          (λ z. subst (Known es′) (sym (f .same-view)) (partly (ps ++ (s ∷ [])) (since-on (accepted s) is tt ps k) (becomes-empty P w ps (Whole P) becomes s z (f .closed) (fw .resting (f .closed))) some (λ o. n (others-front ps s o)) r))
+          (λ z. subst (Known es′) (sym (f .same-view)) (partly (ps ++ (s ∷ [])) (since-on (accepted s) is tt ps k)
+          (becomes-empty P w ps (Whole P) becomes s z (f .closed) (fw .resting (f .closed))) some (λ o. n (others-front ps s o)) r))
           (λ z. absurd (some (z .1))) (f .what))
           (further P w s (fw .same) big fours (fw .resting) unready x t)
       accepted-on unready t (partly-from ps from k becomes some r) =
           ⊎-elim (on-within ps from k becomes)
           (λ f. ⊎-elim
-          (λ z. subst (Known es′) (sym (f .same-view)) (partly-from (ps ++ (s ∷ [])) from (within-on (accepted s) is tt ps k) (becomes-empty P w ps (Rest P b) becomes s z (f .closed) (fw .resting (f .closed))) some r))
+          (λ z. subst (Known es′) (sym (f .same-view)) (partly-from (ps ++ (s ∷ [])) from (within-on (accepted s) is tt ps k)
+          (becomes-empty P w ps (Rest P b) becomes s z (f .closed) (fw .resting (f .closed))) some r))
           (λ z. absurd (some (z .1))) (f .what))
           (further P w s (fw .same) big fours (fw .resting) unready x t)
       accepted-on unready t (ready k r) = let z : _≡_ {A = ℕ} 0 1 = sym unready ∙ r in absurd (omega arith)
@@ -358,5 +362,8 @@ module _ (P : ℕ) (b : Begun) (From : Type 0) where
       event-on wiped-out is k n = (tt, anew wiped-out is tt x (k .held) (k .left) (k .end) (k .ready))
       event-on (handed-over m) is k n =
           let after = k .after in
-          let closed = fw .closed (k .ready) in
-          (source-of m k n, anew (handed-over m) is tt x (ap (λ (v : View). v .held) after) (ap (λ (v : View). v .left) after ∙ closed) (ap (λ (v : View). v .end) after ∙ fw .resting closed) (ap (λ (v : View). v .ready) after))
+          let closed = fw .closed (k .ready) in (
+            source-of m k n,
+            anew (handed-over m) is tt x (ap (λ (v : View). v .held) after) (ap (λ (v : View). v .left) after ∙ closed) (ap (λ (v : View). v .end) after ∙ fw .resting closed)
+                (ap (λ (v : View). v .ready) after),
+          )

@@ -8,9 +8,11 @@ use mathlib.Core.Logic.{_⊎_, inl, inr}
 use lib.ListN.{length}
 use borrow.Author.Tests.{eqb-true, eqb-false}
 use Rattle.rules.specs.Choice.{_=ᵇ_, _<ᵇ_, decide}
-use Rattle.rules.specs.Answers.{DONE, UNCONFIGURED, WRONG-SIZE, HALTED, WAIT, NOT-IN-FOURS, SHORT-HEADER, BAD-TAG, UNKNOWN-MSGID, RESERVED, WRONG-LENGTH, TOO-LONG, OUT-OF-TURN, MISALIGNED}
+use Rattle.rules.specs.Answers.{DONE, UNCONFIGURED, WRONG-SIZE, HALTED, WAIT, NOT-IN-FOURS, SHORT-HEADER, BAD-TAG}
+use Rattle.rules.specs.Answers.{UNKNOWN-MSGID, RESERVED, WRONG-LENGTH, TOO-LONG, OUT-OF-TURN, MISALIGNED}
 use Rattle.rules.proofs.Choice.{pick-all, decide-all, at-true, at-false, and-left, and-both, neb-ne, neb-eq}
-use Rattle.wire.specs.Header.{HEADER, DEV-DEP-MSG-OUT, REQUEST-DEV-DEP-MSG-IN, MsgID, messageRules, requestRules, spareRules, triggerRules, readingRules, readMessage, readRequest, readTrigger, readHeader}
+use Rattle.wire.specs.Header.{HEADER, DEV-DEP-MSG-OUT, REQUEST-DEV-DEP-MSG-IN, MsgID, messageRules, requestRules}
+use Rattle.wire.specs.Header.{triggerRules, readingRules, readMessage, readRequest, readTrigger, readHeader}
 use Rattle.wire.specs.declared.types.Header.{Header}
 use Rattle.wire.specs.declared.types.Read.{Read}
 use Rattle.wire.specs.declared.types.Read.the-variants.{Good, Fault}
@@ -43,9 +45,6 @@ abbrev Reads : List ℕ → Read → Type 0
 Reads s (Fault n) = heardPacket s n ≡ broken-off
 Reads s (Good h) = Unit {0}
 
-spare-read : (s : List ℕ) (h : Header) → Reads s (decide Fault (spareRules s) (Good h))
-spare-read s h = decide-all (Reads s) Fault (spareRules s) (Good h) (halting s RESERVED refl refl refl, tt) (λ _. tt)
-
 header-read : (s : List ℕ) → Reads s (readHeader s)
 unfolding readHeader readMessage readRequest readTrigger
 header-read s =
@@ -54,7 +53,7 @@ header-read s =
     (halting s NOT-IN-FOURS refl refl refl, (halting s SHORT-HEADER refl refl refl, (halting s BAD-TAG refl refl refl, (halting s UNKNOWN-MSGID refl refl refl, tt))))
     (λ _. pick-all (Reads s) (MsgID s =ᵇ DEV-DEP-MSG-OUT) _ _ (λ _. decide-all (Reads s) Fault (messageRules s) _ (ten, (ten, (ten, (ten, tt)))) (λ _. tt))
     (λ _. pick-all (Reads s) (MsgID s =ᵇ REQUEST-DEV-DEP-MSG-IN) _ _
-    (λ _. decide-all (Reads s) Fault (requestRules s) _ (ten, (ten, (ten, tt))) (λ _. pick-all (Reads s) _ _ _ (λ _. spare-read s _) (λ _. spare-read s _)))
+    (λ _. decide-all (Reads s) Fault (requestRules s) _ (ten, (ten, (ten, (ten, tt)))) (λ _. pick-all (Reads s) _ _ _ (λ _. tt) (λ _. tt)))
     (λ _. decide-all (Reads s) Fault (triggerRules s) _ (ten, tt) (λ _. tt))))
 
 abbrev pub Facts : State → List ℕ → Outcome → Type 0
@@ -67,14 +66,18 @@ module _ (st : State) (s : List ℕ) where
   more-facts : (outOf st .transfer .left ≡ 0 → ⊥) → Facts st s (more (packetSize st) (outOf st .transfer .left) s)
   unfolding more
   more-facts e =
-      decide-all (Facts st s) Halt (moreRules (packetSize st) (outOf st .transfer .left) s) _ (halting s NOT-IN-FOURS refl refl refl, (halting s WRONG-LENGTH refl refl refl, (halting s MISALIGNED refl refl refl, tt)))
+      decide-all (Facts st s) Halt (moreRules (packetSize st) (outOf st .transfer .left) s) _
+      (halting s NOT-IN-FOURS refl refl refl, (halting s WRONG-LENGTH refl refl refl, (halting s MISALIGNED refl refl refl, tt)))
       (λ _. (e, refl))
 
   header-facts : outOf st .transfer .left ≡ 0 → (length s ≡ 0 → ⊥) → (r : Read) → readHeader s ≡ r → Reads s r → Facts st s (headerSays st s r)
   unfolding headerSays
   header-facts e some (Fault n) is k = k
   header-facts e some (Good h) is k =
-      decide-all (Facts st s) Halt (headerRules st s h) _ (halting s OUT-OF-TURN refl refl refl, (halting s TOO-LONG refl refl refl, (halting s WRONG-LENGTH refl refl refl, (halting s MISALIGNED refl refl refl, tt))))
+      decide-all (Facts st s) Halt (headerRules st s h) _ (
+        halting s OUT-OF-TURN refl refl refl,
+        (halting s TOO-LONG refl refl refl, (halting s WRONG-LENGTH refl refl refl, (halting s MISALIGNED refl refl refl, tt))),
+      )
       (λ _. (e, some, refl, is))
 
   pub outcome-facts : Facts st s (outcome st s)

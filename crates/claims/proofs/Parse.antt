@@ -19,7 +19,8 @@ use Rattle.port.specs.When.{padded}
 use Rattle.claims.specs.Command.{Piece, command, header, aligned, packets, mark, sending, IsRequest, IsTrigger, Others}
 use Rattle.port.specs.Trace.{Event}
 use Rattle.port.proofs.KeepsOut.{cases}
-use Rattle.claims.specs.Wire.{Heard, nothing, accepted, broken-off, wiped-out, handed-over, heardOf, acceptedIn, Passes, Unbroken, Leaves, Waits, Divides, Divided}
+use Rattle.claims.specs.Wire.{Heard, nothing, accepted, broken-off, wiped-out, handed-over, heardOf}
+use Rattle.claims.specs.Wire.{acceptedIn, Passes, Unbroken, Leaves, Waits, Divides, Divided}
 use Rattle.claims.specs.Handed.{Whole, Brought}
 use Rattle.claims.proofs.Digits.{in-four}
 use Rattle.claims.proofs.Cuts.{aligned-long}
@@ -161,7 +162,8 @@ module _ (P : ℕ) (fours : P % 4 ≡ 0) (big : 16 ≤ P) where
         (and-both _ _ (eq-eqb end 0 (not-ended end n s q t (subst (λ (k : ℕ). Follows P k end n (s ∷ q) t) closed f)))
         (and-both _ _ (eq-eqb (at s 0) 1 (ap (λ (l : List ℕ). at l 0) e))
         (and-both _ _ (ap isHeader e ∙ header-is (h .tag) (h .size) (h .end) (h .behind) (h .tag-some) (h .size-some) fits (h .flag))
-        (and-both _ _ (eq-eqb (length s) (min P (12 + padded (fourAt s 4))) (header-long (length s) (length (h .behind)) (padded (h .size)) long (b .full-length) ∙ ap (λ (k : ℕ). min P (12 + padded k)) (sym size)))
+        (and-both _ _ (eq-eqb (length s) (min P (12 + padded (fourAt s 4)))
+        (header-long (length s) (length (h .behind)) (padded (h .size)) long (b .full-length) ∙ ap (λ (k : ℕ). min P (12 + padded k)) (sym size)))
         ((λ i. allZero (drop (size i) (behind i))) ∙ b .clean)))))
         (b .is ∙ (λ i. take (sym size i) (sym behind i) ++ b .rest))
         ((λ i. parse P (size i - length (behind i)) (at (e i) 8) q) ∙ again (h .size - length (h .behind)) (h .end) (b .held) (b .rest) (b .follows))
@@ -192,7 +194,8 @@ module _ (P : ℕ) (fours : P % 4 ≡ 0) (big : 16 ≤ P) where
   past-empties : (q : List (List ℕ)) (n : ℕ) (t : List ℕ) → Follows P 0 0 n q t → parse P 0 0 (skipped q) ≡ (true, t)
   unfolding skipped
   past-empties [] n t f = read-back [] 0 0 n t f
-  past-empties (s ∷ q) n t f = pick-all (λ (l : List (List ℕ)). parse P 0 0 l ≡ (true, t)) (at s 0 =ᵇ 1) _ _ (λ _. read-back (s ∷ q) 0 0 n t f) (λ e. by e (first-packet P fours big 0 0 n s q t f) (past-empties q n t))
+  past-empties (s ∷ q) n t f = pick-all (λ (l : List (List ℕ)). parse P 0 0 l ≡ (true, t)) (at s 0 =ᵇ 1) _ _ (λ _. read-back (s ∷ q) 0 0 n t f)
+      (λ e. by e (first-packet P fours big 0 0 n s q t f) (past-empties q n t))
     where
       by : (at s 0 =ᵇ 1) ≡ false → First P 0 0 n s q t → (Follows P 0 0 n q t → parse P 0 0 (skipped q) ≡ (true, t)) → parse P 0 0 (skipped q) ≡ (true, t)
       by e (an-empty is closed g) again = again g
@@ -300,7 +303,8 @@ same-found (a ∷ s) = and-both _ _ (eq-eqb a a refl) (same-found s)
 
 any-found : (n i : ℕ) (test : ℕ → Bool) → i ≤ n → test i ≡ true → any n test ≡ true
 any-found zero i test l e = ap test (omega arith) ∙ e
-any-found (suc n) i test l e = ⊎-elim (λ k. or-left _ _ (ap test (eqb-true (suc n) i k) ∙ e)) (λ k. or-right _ _ (any-found n i test (let z = eqb-false (suc n) i k in omega arith) e)) (cases (suc n =ᵇ i))
+any-found (suc n) i test l e = ⊎-elim (λ k. or-left _ _ (ap test (eqb-true (suc n) i k) ∙ e)) (λ k. or-right _ _ (any-found n i test (let z = eqb-false (suc n) i k in omega arith) e))
+    (cases (suc n =ᵇ i))
 
 pub brought-found : (P : ℕ) → P % 4 ≡ 0 → 16 ≤ P → (es : List Event) (m : List ℕ) → Brought P es m → searched P es m ≡ true
 unfolding searched

@@ -14,13 +14,16 @@ use Rattle.rules.proofs.Choice.{pick-all, decide-all, decide-lines, none-left, 
 use Rattle.wire.specs.Setup.{SETUP, readSetup}
 use Rattle.wire.specs.When.{at, Column, rows, Fits, Matches}
 use Rattle.wire.specs.declared.types.Row.{Row}
-use Rattle.wire.specs.declared.types.Row.the-variants.{InitiateAbortBulkOut, CheckAbortBulkOutStatus, InitiateAbortBulkIn, CheckAbortBulkInStatus, InitiateClear, CheckClearStatus, GetCapabilities, IndicatorPulse, ReadStatusByte, RenControl, GoToLocal, LocalLockout, ClearFeature, SetFeature, GetStatus}
+use Rattle.wire.specs.declared.types.Row.the-variants.{InitiateAbortBulkOut, CheckAbortBulkOutStatus, InitiateAbortBulkIn, CheckAbortBulkInStatus}
+use Rattle.wire.specs.declared.types.Row.the-variants.{InitiateClear, CheckClearStatus, GetCapabilities, IndicatorPulse, ReadStatusByte}
+use Rattle.wire.specs.declared.types.Row.the-variants.{RenControl, GoToLocal, LocalLockout, ClearFeature, SetFeature, GetStatus}
 use Rattle.wire.specs.declared.types.Setup.{Setup}
 use Rattle.wire.specs.declared.types.Setup.the-variants.{Configure, Asks, NoRow}
 use Rattle.wire.proofs.When.{setup-law}
 use Rattle.port.specs.Parts.{isOpenOut, isOpenIn, isOwed, isClear, outOf, inOf, interruptOf, isConfigured}
 use Rattle.port.specs.Interrupt.{isWaiting}
-use Rattle.port.specs.Rows.{Reaction, answering, abortRules, outTag, inTag, initiateAbortOut, initiateAbortIn, checkAbortOut, checkAbortIn, initiateClear, checkClear, readStatus, answerRow}
+use Rattle.port.specs.Rows.{Reaction, answering, abortRules, outTag, inTag, initiateAbortOut, initiateAbortIn}
+use Rattle.port.specs.Rows.{checkAbortOut, checkAbortIn, initiateClear, checkClear, readStatus, answerRow}
 use Rattle.port.specs.Device.{Device, Result, isSound}
 use Rattle.port.specs.Calls.{setupRules, asked, setupOutcome, answered, setup}
 use Rattle.port.specs.Step.{SetupPacket, setup-packet, soundly, step}
@@ -107,7 +110,16 @@ only-pulse s x m e = by m
     by (inr (inr (inr (inr (inr (inr (inl k))))))) = row (take 1 (drop 6 rows)) ((λ _. refl), tt) (inl k)
     by (inr (inr (inr (inr (inr (inr (inr (inl k)))))))) = k .0
     by (inr (inr (inr (inr (inr (inr (inr (inr m)))))))) =
-        row (drop 8 rows) ((λ _. refl), ((λ _. refl), ((λ _. refl), ((λ _. refl), ((λ _. refl), ((λ _. refl), ((λ _. refl), ((λ _. refl), ((λ _. refl), ((λ _. refl), ((λ _. refl), ((λ _. refl), ((λ _. refl), ((λ _. refl), tt)))))))))))))) m
+        row (drop 8 rows) (
+          (λ _. refl),
+          (
+            (λ _. refl),
+            (
+              (λ _. refl),
+              ((λ _. refl), ((λ _. refl), ((λ _. refl), ((λ _. refl), ((λ _. refl), ((λ _. refl), ((λ _. refl), ((λ _. refl), ((λ _. refl), ((λ _. refl), ((λ _. refl), tt))))))))))),
+            ),
+          ),
+        ) m
 
 eight : (s : List ℕ) → length s ≡ 8 → s ≡ at s 0 ∷ at s 1 ∷ at s 2 ∷ at s 3 ∷ at s 4 ∷ at s 5 ∷ at s 6 ∷ at s 7 ∷ []
 eight (a ∷ b ∷ c ∷ d ∷ e ∷ f ∷ g ∷ h ∷ []) n = refl
@@ -130,7 +142,8 @@ pulse-bytes p x reads e long =
     let index = f .index in
     let size = f .size in
     eight s long
-    ∙ (λ i. f .type i ∷ f .request i ∷ low (at s 2) (at s 3) value i ∷ high (at s 2) (at s 3) value i ∷ low (at s 4) (at s 5) (le-of index) i ∷ high (at s 4) (at s 5) (le-of index) i ∷ one (at s 6) (at s 7) size i ∷ none-above (at s 6) (at s 7) size i ∷ [])
+    ∙ (λ i. f .type i ∷ f .request i ∷ low (at s 2) (at s 3) value i ∷ high (at s 2) (at s 3) value i ∷ low (at s 4) (at s 5) (le-of index) i ∷ high (at s 4) (at s 5) (le-of index) i ∷ one
+    (at s 6) (at s 7) size i ∷ none-above (at s 6) (at s 7) size i ∷ [])
   where
     none : x ≡ NoRow → ⊥
     none k = let a : _≡_ {A = ℕ} 2 0 = sym e ∙ ap pulseOf k in omega arith
@@ -203,7 +216,16 @@ module _ (u : Device) (due : ℕ) (p : SetupPacket) where
 
   denied : (n : ℕ) → Not (n ≡ 0) → Then (Denies n)
   unfolding answered
-  denied n k = record { tells = omega arith; triggered = λ z. absurd (omega arith); triggers = λ z. absurd z; pulsed = λ z. absurd (omega arith); pulses = λ _ z. absurd (k z); refused = λ _. (refl, refl) }
+  denied n k =
+      record {
+        tells = omega arith;
+        triggered = λ z. absurd (omega arith);
+        triggers = λ z. absurd z;
+        pulsed = λ z. absurd (omega arith);
+        pulses = λ _ z. absurd
+            (k z);
+        refused = λ _. (refl, refl);
+      }
 
   asked-acts : (x : Setup) → readSetup (p .packet) ≡ x → length (p .packet) ≡ 8 → Then (asked (u .state) x)
   unfolding answered asked

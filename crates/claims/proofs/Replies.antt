@@ -18,16 +18,20 @@ use Rattle.wire.specs.When.{at}
 use Rattle.port.specs.Parts.{packetSize}
 use Rattle.port.specs.Answer.{Answer}
 use Rattle.port.specs.Device.{Device, isSound, powerOn}
-use Rattle.port.specs.Step.{in-poll, interrupt-poll, offer-reply, set-status, front-panel, bus-suspend, Call, setup-packet, out-packet, take-into, bus-reset, quiet, step}
+use Rattle.port.specs.Step.{in-poll, interrupt-poll, offer-reply, set-status, front-panel, bus-suspend}
+use Rattle.port.specs.Step.{Call, setup-packet, out-packet, take-into, bus-reset, quiet, step}
 use Rattle.port.specs.Trace.{Event}
-use Rattle.port.specs.Reply.{Asked, portion, inTransfer, cutIn, inPackets, InLine, shut, owing, asked, sending, Reader, unread, requestsNow, afterPacket, remaining, tail, afterPoll, closedBy}
+use Rattle.port.specs.Reply.{Asked, portion, inTransfer, cutIn, inPackets, InLine, shut, owing, asked, sending}
+use Rattle.port.specs.Reply.{Reader, unread, requestsNow, afterPacket, remaining, tail, afterPoll, closedBy}
 use Rattle.port.specs.Reply.{owingNow, aborted, cleared, byBytes, afterSetup, afterCall, FirstOf, Polled, Closed, Expects, Reading}
 use Rattle.port.proofs.Soundness.{sound-of}
-use Rattle.port.proofs.KeepsOut.{cases, size-long}
+use Rattle.port.proofs.KeepsOut.{cases}
+use Rattle.port.proofs.Sizes.{size-of}
 use Rattle.port.proofs.Calls.{power-on-sound}
 use Rattle.port.proofs.Transfers.{cut-last, cut-more, portion-front, portion-some}
 use Rattle.port.proofs.Replies.{replies-read-ever}
-use Rattle.claims.specs.Replies.{dataOf, polledBy, offeredBy, polledIn, offeredIn, readAfter, joined, onItsWay, toCome, Underway, DropsSetup, Drops, Dropped, EachByteOnce, DropsAll, ReadBack}
+use Rattle.claims.specs.Replies.{dataOf, polledBy, offeredBy, polledIn, offeredIn, readAfter, joined, onItsWay}
+use Rattle.claims.specs.Replies.{toCome, Underway, DropsSetup, Drops, Dropped, EachByteOnce, DropsAll, ReadBack}
 use Rattle.claims.specs.Replies.{Cut, Shape}
 
 -- ** the shape of a transfer
@@ -256,7 +260,7 @@ reads-before P r (x ∷ xs) ys h = (h .0, reads-before P (afterCall P r (x .call
 
 -- a header fits a packet
 pub wide : (u : Device) → isSound u ≡ true → 12 ≤ packetSize (u .state)
-wide u sound = let k = size-long (packetSize (u .state)) (sound-of _ sound .port .size) in omega arith
+wide u sound = let k = size-of (packetSize (u .state)) (sound-of _ sound .port .size) .least in omega arith
 
 pub read-back : ReadBack step
 read-back setting calls before stretch later e d n =

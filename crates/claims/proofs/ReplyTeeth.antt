@@ -9,11 +9,12 @@ use native.Mathlib.Omega.{arith}
 use lib.ListN.{length, getD, take, replicate, length-replicate}
 use Rattle.rules.specs.Choice.{_and_, pick}
 use Rattle.rules.specs.Answers.{WAIT, only}
-use Rattle.wire.specs.Header.{OFF, ON}
+use Rattle.rules.specs.Flags.{OFF, ON}
 use Rattle.port.specs.Parts.{STORE, inOf, closedIn, withIn, emptyIn}
 use Rattle.port.specs.Device.{Device, Result, withState, made}
 use Rattle.port.specs.Calls.{refused}
-use Rattle.port.specs.Step.{in-poll, interrupt-poll, offer-reply, set-status, front-panel, bus-suspend, Call, setup-packet, out-packet, take-into, bus-reset, quiet, setup-of, Stepping, step}
+use Rattle.port.specs.Step.{in-poll, interrupt-poll, offer-reply, set-status, front-panel, bus-suspend, Call}
+use Rattle.port.specs.Step.{setup-packet, out-packet, take-into, bus-reset, quiet, setup-of, Stepping, step}
 use Rattle.port.specs.Trace.{Event, trace}
 use Rattle.port.specs.Idle.{constant, refusing}
 use Rattle.port.specs.Reply.{portion, flags, inTransfer, inPackets, unread, afterPacket, afterSetup, Reading}

@@ -13,10 +13,12 @@ use Rattle.wire.specs.When.{at}
 use Rattle.port.specs.Answer.{Answer}
 use Rattle.port.specs.Device.{powerOn}
 use Rattle.port.specs.Service.{Watch, unwatched, bit6, none, behind, afterStatus, readsStatus, afterRequest, watchCall, watched, watch, Tells, Watching}
-use Rattle.port.specs.Step.{in-poll, interrupt-poll, offer-reply, set-status, front-panel, bus-suspend, SetupPacket, Call, setup-packet, out-packet, take-into, bus-reset, quiet, step}
+use Rattle.port.specs.Step.{in-poll, interrupt-poll, offer-reply, set-status, front-panel, bus-suspend, SetupPacket}
+use Rattle.port.specs.Step.{Call, setup-packet, out-packet, take-into, bus-reset, quiet, step}
 use Rattle.port.specs.Trace.{Event, trace}
 use Rattle.port.proofs.Service.{status-told-ever}
-use Rattle.claims.specs.Service.{sets, polls, reads, Takes, Undisturbed, setBy, lastSet, Brings, NoRequestLost, StatusComes, made, wiped, requestsAfter, brought, UsesUp, NoneMadeUpFrom, NoneMadeUp}
+use Rattle.claims.specs.Service.{sets, polls, reads, Takes, Undisturbed, setBy, lastSet, Brings, NoRequestLost, StatusComes}
+use Rattle.claims.specs.Service.{made, wiped, requestsAfter, brought, UsesUp, NoneMadeUpFrom, NoneMadeUp}
 
 -- ** lists and histories
 

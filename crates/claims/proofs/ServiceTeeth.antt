@@ -9,14 +9,15 @@ use Rattle.rules.specs.Choice.{_=ᵇ_, _and_, pick}
 use Rattle.rules.specs.Answers.{WAIT}
 use Rattle.wire.specs.When.{at}
 use Rattle.port.specs.Parts.{interruptOf, withInterrupt, withWaiting, withStatus, noPacket}
-use Rattle.port.specs.Answer.{Answer, number}
+use Rattle.port.specs.Answer.{Answer, numbered}
 use Rattle.port.specs.Interrupt.{asksService, withoutBit6, serviceRequest, isWaiting}
 use Rattle.port.specs.Device.{Device, Result, withState}
 use Rattle.port.specs.Calls.{refused}
-use Rattle.port.specs.Cases.{says}
+use Rattle.port.specs.Cases.{gives}
 use Rattle.port.specs.Laws.{INITIATE-CLEAR, SET-CONFIGURATION}
 use Rattle.port.specs.Service.{behind, afterStatus, afterRequest, watched}
-use Rattle.port.specs.Step.{Quiet, in-poll, interrupt-poll, offer-reply, set-status, front-panel, bus-suspend, SetupPacket, Call, setup-packet, out-packet, take-into, bus-reset, quiet, setup-of, Stepping, step}
+use Rattle.port.specs.Step.{Quiet, in-poll, interrupt-poll, offer-reply, set-status, front-panel, bus-suspend, SetupPacket}
+use Rattle.port.specs.Step.{Call, setup-packet, out-packet, take-into, bus-reset, quiet, setup-of, Stepping, step}
 use Rattle.port.specs.Trace.{Event, trace}
 use Rattle.port.specs.declared.types.InterruptIn.{InterruptIn}
 use Rattle.port.specs.declared.types.Setting.{Setting}
@@ -88,7 +89,7 @@ abbrev pub stalling : Result → Result
 stalling q = refused (q .unit) WAIT
 
 abbrev pub inventing : Result → Result
-inventing q = record { unit = q .unit; answer = pick (q .answer .verdict .number =ᵇ WAIT) (says (0x81 ∷ 0x40 ∷ [])) (q .answer) }
+inventing q = record { unit = q .unit; answer = pick (q .answer .verdict .number =ᵇ WAIT) (gives (0x81 ∷ 0x40 ∷ [])) (q .answer) }
 
 -- ** they are refuted
 
@@ -105,7 +106,7 @@ abbrev poll : Call
 poll = quiet (interrupt-poll 2)
 
 abbrev done : Call → Event
-done c = event c (number 0)
+done c = event c (numbered 0)
 
 -- every definition that a history computes with
 opened : ℕ
@@ -120,20 +121,20 @@ pub no-losing : NoRequestLost (meddling losing) → ⊥
 unfolding opened
 no-losing claim =
     claim .kept size (configure ∷ set 0x40 ∷ set 0x41 ∷ poll ∷ poll ∷ []) (done configure ∷ done (set 0x40) ∷ []) [] [] [] 0x41 2 2
-    (number 0) (says (0x81 ∷ 0x40 ∷ [])) (number 5) refl refl refl some tt refl tt refl .waits refl
+    (numbered 0) (gives (0x81 ∷ 0x40 ∷ [])) (numbered 5) refl refl refl some tt refl tt refl .waits refl
 
 -- a request, and bit 6 set off: the poll waits
 pub no-withdrawing : NoRequestLost (meddling withdrawing) → ⊥
 unfolding opened
 no-withdrawing claim =
-    claim .at-once size (configure ∷ set 0x40 ∷ set 0 ∷ poll ∷ []) (done configure ∷ []) (done (set 0) ∷ []) [] 0x40 2 (number 0) (number 5) refl refl refl refl (λ x. x .1, tt) .waits refl
+    claim .at-once size (configure ∷ set 0x40 ∷ set 0 ∷ poll ∷ []) (done configure ∷ []) (done (set 0) ∷ []) [] 0x40 2 (numbered 0) (numbered 5) refl refl refl refl (λ x. x .1, tt) .waits refl
 
 -- a request, and another byte: the poll brings that
 pub no-overwriting : NoRequestLost (meddling overwriting) → ⊥
 unfolding opened
 no-overwriting claim =
     let e = ap (λ (l : List ℕ). at l 1)
-    (claim .at-once size (configure ∷ set 0x40 ∷ set 0x51 ∷ poll ∷ []) (done configure ∷ []) (done (set 0x51) ∷ []) [] 0x40 2 (number 0) (says (0x81 ∷ 0x51 ∷ []))
+    (claim .at-once size (configure ∷ set 0x40 ∷ set 0x51 ∷ poll ∷ []) (done configure ∷ []) (done (set 0x51) ∷ []) [] 0x40 2 (numbered 0) (gives (0x81 ∷ 0x51 ∷ []))
     refl refl refl refl (λ x. x .1, tt) .bytes refl) in
     let z : _≡_ {A = ℕ} 0x51 0x40 = e in omega arith
 
@@ -142,13 +143,13 @@ pub no-clearing : NoRequestLost (meddling clearing) → ⊥
 unfolding opened
 no-clearing claim =
     let clear = setup-of INITIATE-CLEAR 24 in
-    claim .at-once size (configure ∷ set 0x40 ∷ clear ∷ poll ∷ []) (done configure ∷ []) (event clear (says (0x01 ∷ [])) ∷ []) [] 0x40 2 (number 0) (number 5)
+    claim .at-once size (configure ∷ set 0x40 ∷ clear ∷ poll ∷ []) (done configure ∷ []) (event clear (gives (0x01 ∷ [])) ∷ []) [] 0x40 2 (numbered 0) (numbered 5)
     refl refl refl refl ((λ x. let z = x .1 in omega arith), tt) .waits refl
 
 pub no-stalling : NoRequestLost (answering stalling) → ⊥
 unfolding opened
 no-stalling claim =
-    claim .at-once size (configure ∷ set 0x40 ∷ poll ∷ []) (done configure ∷ []) [] [] 0x40 2 (number 0) (number 5) refl refl refl refl tt .waits refl
+    claim .at-once size (configure ∷ set 0x40 ∷ poll ∷ []) (done configure ∷ []) [] [] 0x40 2 (numbered 0) (numbered 5) refl refl refl refl tt .waits refl
 
 -- ** none is made up: each packet takes one request
 

@@ -13,7 +13,9 @@ use Rattle.wire.specs.Setup.{wIndex, BULK-OUT, BULK-IN, INTERRUPT-IN, row, byEn
 use Rattle.wire.specs.declared.types.Endpoint.{Endpoint}
 use Rattle.wire.specs.declared.types.Endpoint.the-variants.{Out, In, Interrupt}
 use Rattle.wire.specs.declared.types.Row.{Row}
-use Rattle.wire.specs.declared.types.Row.the-variants.{InitiateAbortBulkOut, CheckAbortBulkOutStatus, InitiateAbortBulkIn, CheckAbortBulkInStatus, InitiateClear, CheckClearStatus, GetCapabilities, IndicatorPulse, ReadStatusByte, RenControl, GoToLocal, LocalLockout, ClearFeature, SetFeature, GetStatus}
+use Rattle.wire.specs.declared.types.Row.the-variants.{InitiateAbortBulkOut, CheckAbortBulkOutStatus, InitiateAbortBulkIn, CheckAbortBulkInStatus}
+use Rattle.wire.specs.declared.types.Row.the-variants.{InitiateClear, CheckClearStatus, GetCapabilities, IndicatorPulse, ReadStatusByte}
+use Rattle.wire.specs.declared.types.Row.the-variants.{RenControl, GoToLocal, LocalLockout, ClearFeature, SetFeature, GetStatus}
 use Rattle.wire.specs.declared.types.Setup.{Setup}
 use Rattle.wire.specs.declared.types.Setup.the-variants.{Configure, Asks, NoRow}
 use Rattle.port.specs.Answer.{Answer}

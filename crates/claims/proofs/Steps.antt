@@ -12,22 +12,25 @@ use borrow.Author.Tests.{eqb-true, eqb-false}
 use Rattle.rules.specs.Choice.{_=ᵇ_, pick}
 use Rattle.rules.specs.Answers.{DONE, UNCONFIGURED, WRONG-SIZE, NO-ROW, NOT-NOW, SUCCESS, FAILED, TRANSFER-NOT-IN-PROGRESS, SPLIT-IN-PROGRESS}
 use Rattle.rules.proofs.Choice.{pick-all, decide-all, at-true, at-false, not-no}
-use Rattle.wire.specs.Header.{ON}
+use Rattle.rules.specs.Flags.{ON}
 use Rattle.wire.specs.Setup.{readSetup}
 use Rattle.wire.specs.When.{fourAt}
 use Rattle.wire.specs.declared.types.Header.{Header}
 use Rattle.wire.specs.declared.types.Header.the-variants.{Message, Request, Trigger}
 use Rattle.wire.specs.declared.types.Endpoint.the-variants.{Out, In, Interrupt}
 use Rattle.wire.specs.declared.types.Row.{Row}
-use Rattle.wire.specs.declared.types.Row.the-variants.{InitiateAbortBulkOut, CheckAbortBulkOutStatus, InitiateAbortBulkIn, CheckAbortBulkInStatus, InitiateClear, CheckClearStatus, GetCapabilities, IndicatorPulse, ReadStatusByte, RenControl, GoToLocal, LocalLockout, ClearFeature, SetFeature, GetStatus}
+use Rattle.wire.specs.declared.types.Row.the-variants.{InitiateAbortBulkOut, CheckAbortBulkOutStatus, InitiateAbortBulkIn, CheckAbortBulkInStatus}
+use Rattle.wire.specs.declared.types.Row.the-variants.{InitiateClear, CheckClearStatus, GetCapabilities, IndicatorPulse, ReadStatusByte}
+use Rattle.wire.specs.declared.types.Row.the-variants.{RenControl, GoToLocal, LocalLockout, ClearFeature, SetFeature, GetStatus}
 use Rattle.wire.specs.declared.types.Setup.{Setup}
 use Rattle.wire.specs.declared.types.Setup.the-variants.{Configure, Asks, NoRow}
 use Rattle.port.specs.Parts.{on, packetSize, isOpenOut, isClear, outOf, isConfigured, noMessage, emptyOut, broken, fresh}
-use Rattle.port.specs.Answer.{Answer, Said, number, refuse}
+use Rattle.port.specs.Answer.{Answer, Said, numbered, refuse}
 use Rattle.port.specs.Out.{opened, tagged, outcome, planned, accepted as acceptance, outPlan}
 use Rattle.port.specs.Rows.{Reaction, answering, abortRules, outTag, initiateAbortOut, clearing, initiateClear, clearFeatureOut, answerRow, effected}
 use Rattle.port.specs.Device.{Device, Result, isSound, withState, heldOf, made}
-use Rattle.port.specs.Calls.{refused, said, carriedOut, bulkOut, setupRules, asked, setupOutcome, answered, setup, takeRules, released, taking, take-message, busReset}
+use Rattle.port.specs.Calls.{refused, said, withMessage, bulkOut, setupRules, asked, setupOutcome}
+use Rattle.port.specs.Calls.{answered, setup, takeRules, released, taking, take-message, busReset}
 use Rattle.port.specs.Step.{SetupPacket, Call, setup-packet, out-packet, take-into, bus-reset, quiet, quietly, soundly, step}
 use Rattle.port.specs.Breaks.{breaksRow}
 use Rattle.port.specs.Laws.{Stored}
@@ -41,17 +44,18 @@ use Rattle.port.specs.declared.types.State.{State}
 use Rattle.port.specs.declared.types.Outcome.{Outcome}
 use Rattle.port.specs.declared.types.Outcome.the-variants.{Keep, Halt, Data, Accept}
 use Rattle.wire.proofs.When.{header-law}
+use Rattle.port.proofs.Sizes.{Size, size-of}
 use Rattle.port.proofs.Soundness.{OutSound, sound-of}
 use Rattle.port.proofs.When.{rule-for-every}
 use Rattle.port.proofs.KeepsOut.{out-held}
 use Rattle.port.proofs.Calls.{step-sound}
 use Rattle.claims.specs.Wire.{Heard, nothing, accepted, broken-off, wiped-out, handed-over, heardPacket, heard}
-use Rattle.claims.proofs.Cuts.{size-fours}
 use Rattle.claims.proofs.Between.{face, row-kept, quiet-kept}
 use Rattle.claims.proofs.Setups.{inRow, Told, told, heard-done, heard-refused}
 use Rattle.claims.proofs.Packets.{Facts, outcome-facts, passing}
 use Rattle.claims.proofs.Accepted.{gate, more-bytes, unheld, opens, requests, triggers}
-use Rattle.claims.proofs.Effects.{View, viewOf, view, Opening, Taken, empty, other, all-at-once, begins, ends, goes-on, Broken, Wiped, Effect, landed-whole, landed-part}
+use Rattle.claims.proofs.Effects.{View, viewOf, view, Opening, Taken, empty, other, all-at-once, begins}
+use Rattle.claims.proofs.Effects.{ends, goes-on, Broken, Wiped, Effect, landed-whole, landed-part}
 
 module _ (u : Device) (stored : Stored u) (sound : isSound u ≡ true) where
   abbrev st : State
@@ -146,7 +150,7 @@ module _ (u : Device) (stored : Stored u) (sound : isSound u ≡ true) where
 
     answers : (x : Setup) → Told (p .packet) x → Comes (asked st x)
     unfolding heard answered asked made fresh
-    answers (Configure value) k = by-heard _ wiped-out _ (heard-done (p .packet) (number DONE) refl ∙ k (number DONE)) (record { size = refl; left = refl; end = refl; ready = refl; held = refl })
+    answers (Configure value) k = by-heard _ wiped-out _ (heard-done (p .packet) (numbered DONE) refl ∙ k (numbered DONE)) (record { size = refl; left = refl; end = refl; ready = refl; held = refl })
     answers (Asks row) k =
         pick-all Comes (isConfigured st) _ _
         (λ _. by-heard _ (inRow row (answerRow st row .answer)) _ (heard-done (p .packet) _ (row-kept u row .0) ∙ k _) (row-goes row))
@@ -176,8 +180,8 @@ module _ (u : Device) (stored : Stored u) (sound : isSound u ≡ true) where
     unput : (o : BulkOut) → viewOf (record { out = o; message = paste (u .message) (outOf st .message .held) p 0; size = packetSize st; configured = isConfigured st }) ≡ with-out o
     unput o = ap (λ (m : List ℕ). viewOf (record { out = o; message = m; size = packetSize st; configured = isConfigured st })) (sym (paste-zero (u .message) (outOf st .message .held) p))
 
-    fours : (packetSize st % 4 ≡ 0) × (16 ≤ packetSize st)
-    fours = size-fours (packetSize st) (sound-of st sound .port .size)
+    fours : Size (packetSize st)
+    fours = size-of (packetSize st) (sound-of st sound .port .size)
 
     long-enough : length (u .message) ≡ 1024
     long-enough = stored .message
@@ -189,7 +193,7 @@ module _ (u : Device) (stored : Stored u) (sound : isSound u ≡ true) where
       unready : w .ready ≡ 0
       unready = let n = gate u p g .2 in let f = flag in omega arith
 
-      comes-data : (count : ℕ) → Facts st p (Data count) → Taken w p (view (carriedOut u p (planned st (Data count)) .unit))
+      comes-data : (count : ℕ) → Facts st p (Data count) → Taken w p (view (withMessage u p (planned st (Data count)) .unit))
       unfolding planned
       comes-data count f =
           let o = outOf st in
@@ -197,13 +201,13 @@ module _ (u : Device) (stored : Stored u) (sound : isSound u ≡ true) where
           ⊎-elim
           (λ l. ends (take (o .transfer .left) p) (f .0) (l .0) (l .1) (gate u p g .0) (landed-whole o (u .message) p count (packetSize st) (isConfigured st) long-enough room (f .1) (l .0)))
           (λ l. goes-on (f .0) (l .0) (l .1) (landed-part o (u .message) p count (packetSize st) (isConfigured st) long-enough room (f .1) (l .1)))
-          (more-bytes u p g (fours .0) (f .0))
+          (more-bytes u p g (fours .fours) (f .0))
 
-      comes-header : (h : Header) (count : ℕ) → Facts st p (Accept h count) → Taken w p (view (carriedOut u p (planned st (Accept h count)) .unit))
+      comes-header : (h : Header) (count : ℕ) → Facts st p (Accept h count) → Taken w p (view (withMessage u p (planned st (Accept h count)) .unit))
       unfolding planned acceptance
       comes-header (Message tag size end) count f =
           let m = header-law .meaning p (Message tag size end) (f .3) in
-          let k = opens u p g (f .0) (f .1) octets tag size (m .1) (m .2) (fours .0) (let b = fours .1 in omega arith) end (m .0) (m .3) in
+          let k = opens u p g (f .0) (f .1) octets tag size (m .1) (m .2) (fours .fours) (let b = fours .least in omega arith) end (m .0) (m .3) in
           let o = opened (outOf st) tag size end in
           let l = length-drop 12 p in
           let counted : count ≡ min size (length (drop 12 p)) = f .2 ∙ ap (λ (n : ℕ). min size n) (sym l) in
@@ -220,8 +224,9 @@ module _ (u : Device) (stored : Stored u) (sound : isSound u ≡ true) where
             bytes = k .bytes;
           } in
           ⊎-elim
-          (λ r. all-at-once opening (take size (drop 12 p)) (f .0) (r .0) (r .1) (k .fits) (landed-whole o (u .message) (drop 12 p) count (packetSize st) (isConfigured st) long-enough (k .room) counted (r .0)))
-          (λ r. begins opening (f .0) (let q = r .0 in let n = k .long in let b = fours .1 in omega arith) (r .1)
+          (λ r. all-at-once opening (take size (drop 12 p)) (f .0) (r .0) (r .1) (k .fits)
+          (landed-whole o (u .message) (drop 12 p) count (packetSize st) (isConfigured st) long-enough (k .room) counted (r .0)))
+          (λ r. begins opening (f .0) (let q = r .0 in let n = k .long in let b = fours .least in omega arith) (r .1)
           (landed-part o (u .message) (drop 12 p) count (packetSize st) (isConfigured st) long-enough (k .room) counted (r .1)))
           (k .rest)
       comes-header (Request tag size enabled term) count f =
@@ -233,7 +238,7 @@ module _ (u : Device) (stored : Stored u) (sound : isSound u ≡ true) where
           other (inr (triggers u p g (f .0) (f .1) octets tag (fourAt p 4) (m .1) refl (m .0))) (f .0)
           (ap (λ (n : ℕ). take n (u .message)) (unheld u p g (f .0) (f .1) (inr (m .0)))) (unput (tagged (outOf st) tag))
 
-    comes : (x : Outcome) → Facts st p x → given u (out-packet p) (planned st x .verdict .number) → Goes (out-packet p) (carriedOut u p (planned st x))
+    comes : (x : Outcome) → Facts st p x → given u (out-packet p) (planned st x .verdict .number) → Goes (out-packet p) (withMessage u p (planned st x))
     unfolding heard planned acceptance
     comes (Keep n) f g =
         ⊎-elim
@@ -252,7 +257,9 @@ module _ (u : Device) (stored : Stored u) (sound : isSound u ≡ true) where
 
     out-goes : Goes (out-packet p) (bulkOut u p)
     unfolding soundly bulkOut outPlan
-    out-goes = comes (outcome st p) (outcome-facts st p) (subst (λ (r : Result). given u (out-packet p) (r .answer .verdict .number)) (step-sound u (out-packet p) sound) (rule-for-every u (out-packet p)))
+    out-goes =
+        comes (outcome st p) (outcome-facts st p) (subst (λ (r : Result). given u (out-packet p) (r .answer .verdict .number)) (step-sound u (out-packet p) sound)
+        (rule-for-every u (out-packet p)))
 
   -- ** any call
 

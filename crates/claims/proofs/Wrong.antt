@@ -9,7 +9,7 @@ use native.Mathlib.Omega.{arith}
 use lib.ListN.{length, getD, replicate, length-replicate}
 use Rattle.rules.specs.Choice.{_and_}
 use Rattle.rules.specs.Answers.{done}
-use Rattle.wire.specs.Header.{ON}
+use Rattle.rules.specs.Flags.{ON}
 use Rattle.port.specs.Parts.{STORE}
 use Rattle.port.specs.Answer.{Answer}
 use Rattle.port.specs.Device.{Device, made, zeroed, powerOn}

@@ -12,7 +12,8 @@ use Rattle.port.specs.Answer.{Answer}
 use Rattle.port.specs.Device.{powerOn}
 use Rattle.port.specs.Laws.{Succeeds}
 use Rattle.port.specs.Service.{Watch, unwatched, bit6, readsStatus, watched, watch}
-use Rattle.port.specs.Step.{Quiet, in-poll, interrupt-poll, offer-reply, set-status, front-panel, bus-suspend, Call, setup-packet, out-packet, take-into, bus-reset, quiet, setup-of, Stepping}
+use Rattle.port.specs.Step.{Quiet, in-poll, interrupt-poll, offer-reply, set-status, front-panel, bus-suspend}
+use Rattle.port.specs.Step.{Call, setup-packet, out-packet, take-into, bus-reset, quiet, setup-of, Stepping}
 use Rattle.port.specs.Trace.{Event, trace}
 use Rattle.port.specs.declared.types.Setting.{Setting}
 

@@ -10,7 +10,7 @@ use Rattle.port.specs.Parts.{isOpenOut, outOf}
 use Rattle.port.specs.Answer.{Answer}
 use Rattle.port.specs.Out.{planned}
 use Rattle.port.specs.Device.{heldOf}
-use Rattle.port.specs.Calls.{carriedOut}
+use Rattle.port.specs.Calls.{withMessage}
 use Rattle.port.specs.Step.{setup-packet, out-packet, take-into, bus-reset, quiet, Stepping, step}
 use Rattle.port.specs.When.{padded}
 use Rattle.port.specs.declared.types.Outcome.the-variants.{Data}
@@ -19,7 +19,8 @@ use Rattle.port.specs.declared.types.Outcome.the-variants.{Data}
 unfoldable pub takingShort : Stepping
 takingShort u (setup-packet p) = step u (setup-packet p)
 takingShort u (out-packet s) =
-    pick (isOpenOut (outOf (u .state))) (carriedOut u s (planned (u .state) (Data (min (outOf (u .state) .transfer .left) (length s))))) (step u (out-packet s))
+    pick (isOpenOut (outOf (u .state))) (withMessage u s (planned (u .state) (Data (min (outOf (u .state) .transfer .left) (length s)))))
+    (step u (out-packet s))
 takingShort u (take-into room) = step u (take-into room)
 takingShort u bus-reset = step u bus-reset
 takingShort u (quiet q) = step u (quiet q)
@@ -28,14 +29,16 @@ takingShort u (quiet q) = step u (quiet q)
 unfoldable pub takingSurplus : Stepping
 takingSurplus u (setup-packet p) = step u (setup-packet p)
 takingSurplus u (out-packet s) =
-    pick (outOf (u .state) .transfer .left =ᵇ 0 and at s 0 =ᵇ 1) (step u (out-packet (take (12 + fourAt s 4) s ++ replicate (padded (fourAt s 4) - fourAt s 4) 0))) (step u (out-packet s))
+    pick (outOf (u .state) .transfer .left =ᵇ 0 and at s 0 =ᵇ 1)
+    (step u (out-packet (take (12 + fourAt s 4) s ++ replicate (padded (fourAt s 4) - fourAt s 4) 0))) (step u (out-packet s))
 takingSurplus u (take-into room) = step u (take-into room)
 takingSurplus u bus-reset = step u bus-reset
 takingSurplus u (quiet q) = step u (quiet q)
 
 -- it tells the thermostat to trigger with everything that it refuses
 abbrev telling : Answer → Answer
-telling a = record { verdict = record { number = a .verdict .number; tells = pick (a .verdict .number =ᵇ 0) (a .verdict .tells) TELLS-TRIGGER }; bytes = a .bytes }
+telling a =
+    record { verdict = record { number = a .verdict .number; tells = pick (a .verdict .number =ᵇ 0) (a .verdict .tells) TELLS-TRIGGER }; bytes = a .bytes }
 
 unfoldable pub triggeringOnRefusals : Stepping
 triggeringOnRefusals u c = record { unit = step u c .unit; answer = telling (step u c .answer) }

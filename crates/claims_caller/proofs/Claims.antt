@@ -23,10 +23,10 @@ use Rattle.port.proofs.Clearing.{clear-reached-polled, clear-reached-halted}
 use Rattle.port.proofs.When.{rule-for-every}
 use Rattle.port.proofs.Replies.{replies-read, replies-read-ever}
 use Rattle.port.proofs.Service.{status-told, status-told-ever}
-use Rattle.c_bytes.specs.Flat.{isUnit, opened, shut}
-use Rattle.c_promise.specs.Promise.{Lent, Left, onBytes, Leaves}
+use Rattle.c_bytes.specs.Layout.{isUnit, unitIn, unitBytes}
+use Rattle.c_promise.specs.Promise.{Lent, BytesResult, onBytes, Returns}
 use Rattle.c_promise.proofs.Called.{on-unit}
-use Rattle.c_promise.specs.declared.types.Answer.{Answer as CAnswer}
+use Rattle.c_promise.specs.declared.types.TmcAnswer.{TmcAnswer}
 use Rattle.unit.specs.Promise.{deviceOf, doneOf}
 use Rattle.unit.specs.declared.types.Unit.{Unit}
 use Rattle.unit.specs.declared.types.Done.{Done}
@@ -49,7 +49,8 @@ use Rattle.claims.proofs.Replies.{read-back}
 use Rattle.claims.proofs.Service.{no-request-lost, status-comes, none-made-up}
 use Rattle.claims_caller.specs.Runs.{answersOf}
 use Rattle.claims_caller.specs.Seen.{OneByUnit, SeenByC, SeenByUnit}
-use Rattle.claims_caller.proofs.Seen.{in-octets, c-stored, c-from, c-bytes, c-trace, c-octets, c-holds, unit-trace-from, unit-trace, unit-octets, unit-holds}
+use Rattle.claims_caller.proofs.Seen.{in-octets, c-stored, c-from, c-bytes, c-trace, c-octets, c-holds}
+use Rattle.claims_caller.proofs.Seen.{unit-trace-from, unit-trace, unit-octets, unit-holds}
 
 -- ** what is seen of a run, from a unit of the definitions
 
@@ -70,7 +71,8 @@ module _ (d : Device) (stored : Stored d) (sound : isSound d ≡ true) (es : Lis
   seen-acting = by (Acting (outOf (d .state) .transfer .left)) (acts-only-on d (callsOf es) stored sound octets)
 
   seen-arrives : (pieces : List Piece) → Waiting d → Sendable pieces → Arrives (packetSize (d .state)) (command pieces) (stageOf d (sending (packetSize (d .state)) pieces)) es
-  seen-arrives pieces waiting sendable = by (Arrives (packetSize (d .state)) (command pieces) (stageOf d (sending (packetSize (d .state)) pieces))) (whole-command d pieces (callsOf es) stored waiting sendable octets)
+  seen-arrives pieces waiting sendable = by (Arrives (packetSize (d .state)) (command pieces) (stageOf d (sending (packetSize (d .state)) pieces)))
+      (whole-command d pieces (callsOf es) stored waiting sendable octets)
 
   seen-reading : Reading (packetSize (d .state)) (readerOf d) es
   seen-reading = by (Reading (packetSize (d .state)) (readerOf d)) (replies-read d (callsOf es) stored sound)
@@ -84,7 +86,8 @@ module _ (d : Device) (stored : Stored d) (sound : isSound d ≡ true) (es : Lis
   seen-whole-reply : Ready d → AllCome (packetSize (d .state)) unread es → toCome (readAfter (packetSize (d .state)) unread es) ≡ []
       → polledIn (packetSize (d .state)) unread es ≡ offeredIn es
   seen-whole-reply ready =
-      by (λ l. AllCome (packetSize (d .state)) unread l → toCome (readAfter (packetSize (d .state)) unread l) ≡ [] → polledIn (packetSize (d .state)) unread l ≡ offeredIn l) (whole-reply d (callsOf es) ready)
+      by (λ l. AllCome (packetSize (d .state)) unread l → toCome (readAfter (packetSize (d .state)) unread l) ≡ [] → polledIn (packetSize (d .state)) unread l ≡ offeredIn l)
+      (whole-reply d (callsOf es) ready)
 
   -- INITIATE_CLEAR, a poll, CHECK_CLEAR_STATUS: SUCCESS
   seen-clear-polled : (control room : ℕ) → Ready-to-clear d control room → (initiate poll check : Event) → es ≡ initiate ∷ poll ∷ check ∷ []
@@ -177,9 +180,9 @@ module _ (d : Device) (stored : Stored d) (sound : isSound d ≡ true) (check fe
 
 -- ** from C
 
-module _ (u : List ℕ) (lent : Lent u) (is : isUnit u ≡ true) (sound : isSound (opened u) ≡ true) (es : List Event) (u′ : List ℕ) (h : SeenByC u es u′) where
+module _ (u : List ℕ) (lent : Lent u) (is : isUnit u ≡ true) (sound : isSound (unitIn u) ≡ true) (es : List Event) (u′ : List ℕ) (h : SeenByC u es u′) where
   abbrev d : Device
-  d = opened u
+  d = unitIn u
 
   abbrev P : ℕ
   P = packetSize (d .state)
@@ -226,62 +229,65 @@ module _ (u : List ℕ) (lent : Lent u) (is : isUnit u ≡ true) (sound : isSoun
       → answersOf later ≡ run step (freshUnit P (survivors (d .state))) (callsOf later)
   c-clean-after-fault = seen-clean d stored sound es octets traced
 
-module _ (u : List ℕ) (lent : Lent u) (is : isUnit u ≡ true) (sound : isSound (opened u) ≡ true) (check feature : Event) (between later : List Event) (control room : ℕ) (u′ : List ℕ)
+module _ (u : List ℕ) (lent : Lent u) (is : isUnit u ≡ true) (sound : isSound (unitIn u) ≡ true) (check feature : Event) (between later : List Event) (control room : ℕ) (u′ : List ℕ)
     (h : SeenByC u (check ∷ (between ++ (feature ∷ later))) u′) where
   pub c-command-after-clear : check .call ≡ setup-of CHECK-CLEAR-STATUS control → Succeeds (check .answer) → NoBreaks between
       → feature .call ≡ setup-of CLEAR-FEATURE-OUT room → feature .answer .verdict .number ≡ 0 → (pieces : List Piece) → Sendable pieces
-      → let P = packetSize (opened u .state) in Arrives P (command pieces) (coming (sending P pieces)) later
-  c-command-after-clear = seen-after-clear (opened u) (c-stored u lent is sound _ u′ h) sound check feature between later control room (c-bytes u lent is sound _ u′ h) (c-from u lent is sound _ u′ h .0)
+      → let P = packetSize (unitIn u .state) in Arrives P (command pieces) (coming (sending P pieces)) later
+  c-command-after-clear = seen-after-clear (unitIn u) (c-stored u lent is sound _ u′ h) sound check feature between later control room (c-bytes u lent is sound _ u′ h)
+      (c-from u lent is sound _ u′ h .0)
 
 -- one call on any bytes that are a unit's: its number is the first whose condition holds
-module _ (u : List ℕ) (is : isUnit u ≡ true) (c : Call) (u′ : List ℕ) (r : CAnswer) where
-  pub c-rule-for-every : Leaves (onBytes u c) u′ r → given (opened u) c (r .verdict .number)
-  c-rule-for-every k = subst (λ (n : ℕ). given (opened u) c n) (sym (ap (λ (a : CAnswer). a .verdict .number) (k .answer) ∙ ap (λ (q : Left). q .answer .verdict .number) (on-unit u c is))) (rule-for-every (opened u) c)
+module _ (u : List ℕ) (is : isUnit u ≡ true) (c : Call) (u′ : List ℕ) (r : TmcAnswer) where
+  pub c-rule-for-every : Returns (onBytes u c) u′ r → given (unitIn u) c (r .verdict .number)
+  c-rule-for-every k =
+      subst (λ (n : ℕ). given (unitIn u) c n) (sym (ap (λ (a : TmcAnswer). a .verdict .number) (k .answer) ∙ ap (λ (q : BytesResult). q .answer .verdict .number) (on-unit u c is)))
+      (rule-for-every (unitIn u) c)
 
 module _ (setting : Setting) where
   abbrev size : ℕ
   size = packetSize (powerOn setting .unit .state)
 
-  pub c-no-half-command-ever : (es : List Event) (u′ : List ℕ) → SeenByC (shut (powerOn setting .unit)) es u′ → AllBrought size es
+  pub c-no-half-command-ever : (es : List Event) (u′ : List ℕ) → SeenByC (unitBytes (powerOn setting .unit)) es u′ → AllBrought size es
   c-no-half-command-ever = c-holds setting (AllBrought size) (no-half-command-ever setting)
 
-  pub c-acts-only-on-ever : (es : List Event) (u′ : List ℕ) → SeenByC (shut (powerOn setting .unit)) es u′ → Acting 0 es
+  pub c-acts-only-on-ever : (es : List Event) (u′ : List ℕ) → SeenByC (unitBytes (powerOn setting .unit)) es u′ → Acting 0 es
   c-acts-only-on-ever = c-holds setting (Acting 0) (acts-only-on-ever setting)
 
-  pub c-replies-read-ever : (es : List Event) (u′ : List ℕ) → SeenByC (shut (powerOn setting .unit)) es u′ → Reading size unread es
+  pub c-replies-read-ever : (es : List Event) (u′ : List ℕ) → SeenByC (unitBytes (powerOn setting .unit)) es u′ → Reading size unread es
   c-replies-read-ever = c-holds setting (Reading size unread) (λ calls _. replies-read-ever setting calls)
 
-  pub c-whole-command-ever : (before later : List Event) (status : Event) (control : ℕ) (u′ : List ℕ) → SeenByC (shut (powerOn setting .unit)) (before ++ (status ∷ later)) u′
+  pub c-whole-command-ever : (before later : List Event) (status : Event) (control : ℕ) (u′ : List ℕ) → SeenByC (unitBytes (powerOn setting .unit)) (before ++ (status ∷ later)) u′
       → status .call ≡ setup-of GET-STATUS-OUT control → status .answer ≡ record { verdict = done; bytes = 0 ∷ 0 ∷ [] } → Others (acceptedSince [] before)
       → (pieces : List Piece) → Sendable pieces
       → let P = packetSize (after step (powerOn setting .unit) (callsOf before) .state) in
       Arrives P (command pieces) (older (sending P pieces)) (status ∷ later) ⊎ Arrives P (command pieces) (coming (sending P pieces)) (status ∷ later)
   c-whole-command-ever before later status control u′ h = seen-arrives-ever setting before later status control (c-octets setting _ u′ h) (c-trace setting _ u′ h)
 
-  pub c-read-back : (before stretch later : List Event) (u′ : List ℕ) → SeenByC (shut (powerOn setting .unit)) (before ++ (stretch ++ later)) u′
+  pub c-read-back : (before stretch later : List Event) (u′ : List ℕ) → SeenByC (unitBytes (powerOn setting .unit)) (before ++ (stretch ++ later)) u′
       → let r = readAfter size unread before in
       Dropped size unread before → NoDrops size r stretch → offeredIn stretch ≡ polledIn size r stretch ++ toCome (readAfter size r stretch)
   c-read-back before stretch later u′ h = read-back setting (callsOf (before ++ (stretch ++ later))) before stretch later (sym (c-trace setting _ u′ h))
 
-  pub c-status-told-ever : (es : List Event) (u′ : List ℕ) → SeenByC (shut (powerOn setting .unit)) es u′ → Watching unwatched es
+  pub c-status-told-ever : (es : List Event) (u′ : List ℕ) → SeenByC (unitBytes (powerOn setting .unit)) es u′ → Watching unwatched es
   c-status-told-ever = c-holds setting (Watching unwatched) (λ calls _. status-told-ever setting calls)
 
-  pub c-none-made-up : (es : List Event) (u′ : List ℕ) → SeenByC (shut (powerOn setting .unit)) es u′ → NoneMadeUpFrom unwatched [] es
+  pub c-none-made-up : (es : List Event) (u′ : List ℕ) → SeenByC (unitBytes (powerOn setting .unit)) es u′ → NoneMadeUpFrom unwatched [] es
   c-none-made-up = c-holds setting (NoneMadeUpFrom unwatched []) (λ calls _. none-made-up setting calls)
 
   pub c-request-at-once : (before between later : List Event) (status room : ℕ) (a b : Answer) (u′ : List ℕ)
-      → SeenByC (shut (powerOn setting .unit)) (before ++ (sets status a ∷ (between ++ (polls room b ∷ later)))) u′
+      → SeenByC (unitBytes (powerOn setting .unit)) (before ++ (sets status a ∷ (between ++ (polls room b ∷ later)))) u′
       → a .verdict .number ≡ 0 → bit6 status ≡ true → NoneWaits before → Undisturbed between → Brings (0x81 ∷ status ∷ []) b
   c-request-at-once before between later status room a b u′ h = no-request-lost .at-once setting _ before between later status room a b (sym (c-trace setting _ u′ h))
 
   pub c-request-kept : (before between more later : List Event) (status room first : ℕ) (a b c : Answer) (u′ : List ℕ)
-      → SeenByC (shut (powerOn setting .unit)) (before ++ (sets status a ∷ (between ++ (polls first b ∷ (more ++ (polls room c ∷ later)))))) u′
+      → SeenByC (unitBytes (powerOn setting .unit)) (before ++ (sets status a ∷ (between ++ (polls first b ∷ (more ++ (polls room c ∷ later)))))) u′
       → a .verdict .number ≡ 0 → bit6 status ≡ true → Not (NoneWaits before) → Undisturbed between → b .verdict .number ≡ 0 → Undisturbed more
       → bit6 (lastSet status between) ≡ true → Brings (0x81 ∷ lastSet status between ∷ []) c
   c-request-kept before between more later status room first a b c u′ h = no-request-lost .kept setting _ before between more later status room first a b c (sym (c-trace setting _ u′ h))
 
   pub c-status-comes : (before between later : List Event) (tag control room : ℕ) (a b : Answer) (u′ : List ℕ)
-      → SeenByC (shut (powerOn setting .unit)) (before ++ (reads tag control a ∷ (between ++ (polls room b ∷ later)))) u′
+      → SeenByC (unitBytes (powerOn setting .unit)) (before ++ (reads tag control a ∷ (between ++ (polls room b ∷ later)))) u′
       → Succeeds a → Undisturbed between → Brings ((0x80 + tag) ∷ heldBehind before ∷ []) b
   c-status-comes before between later tag control room a b u′ h = status-comes setting _ before between later tag control room a b (sym (c-trace setting _ u′ h))
 

@@ -8,15 +8,16 @@ use mathlib.Core.List.{List, _∷_}
 use mathlib.Core.Logic.{_⊎_, inl, inr}
 use native.Mathlib.Omega.{arith}
 use Rattle.port.specs.Device.{Device, isSound, powerOn}
-use Rattle.port.specs.Step.{in-poll, interrupt-poll, offer-reply, set-status, front-panel, bus-suspend, Call, setup-packet, out-packet, take-into, bus-reset, quiet, step, after}
+use Rattle.port.specs.Step.{in-poll, interrupt-poll, offer-reply, set-status, front-panel, bus-suspend}
+use Rattle.port.specs.Step.{Call, setup-packet, out-packet, take-into, bus-reset, quiet, step, after}
 use Rattle.port.specs.Trace.{Event, trace, AllInOctets, callsOf}
 use Rattle.port.specs.Laws.{Stored}
 use Rattle.port.specs.declared.types.Setting.{Setting}
 use Rattle.port.proofs.Calls.{power-on-sound, power-on-stored, keeps-sound, keeps-stored}
 use Rattle.port.proofs.Silent.{Mute, packet, offers, sets, panels, suspends, resets, silent}
-use Rattle.c_bytes.specs.Flat.{isUnit, opened, shut}
-use Rattle.c_bytes.proofs.Parted.{opened-stored}
-use Rattle.c_promise.specs.Promise.{Lent, Left, shutOf, onBytes, Leaves, Fills}
+use Rattle.c_bytes.specs.Layout.{isUnit, unitIn, unitBytes}
+use Rattle.c_bytes.proofs.Parted.{unit-stored}
+use Rattle.c_promise.specs.Promise.{Lent, BytesResult, resultBytes, onBytes, Returns, Fills}
 use Rattle.c_promise.proofs.Called.{again}
 use Rattle.tewennos.proofs.Chain.{call-again}
 use Rattle.tewennos.proofs.Public.{left-step, filled-step}
@@ -25,7 +26,8 @@ use Rattle.unit.specs.declared.types.Unit.{Unit}
 use Rattle.unit.specs.declared.types.Done.{Done}
 use Rattle.unit.proofs.Public.{new-step, done-step, told-step}
 use Rattle.unit_inplace.proofs.Public.{packet-in-place-step, poll-in-place-step}
-use Rattle.claims_caller.specs.Seen.{Lends, sets-up, polls, interrupts, takes, OneByC, unlent, lent, OneByUnit, returns, writes, packet-in-place, poll-in-place, Seen, none, then, SeenByC, SeenByUnit}
+use Rattle.claims_caller.specs.Seen.{Lends, sets-up, polls, interrupts, takes, OneByC, unlent, lent, OneByUnit, returns}
+use Rattle.claims_caller.specs.Seen.{writes, packet-in-place, poll-in-place, Seen, none, then, SeenByC, SeenByUnit}
 
 -- every call is lent a buffer or not: none is left out
 pub lends-or-not : (c : Call) → Mute c ⊎ ((room : ℕ) × Lends c room)
@@ -64,51 +66,51 @@ module _ {U : Type 0} (One : U → Event → U → Type 0) where
 
 -- the bytes of a sound unit
 record SoundBytes (d : Device) (u : List ℕ) : Type 0 where
-  bytes : u ≡ shut d
+  bytes : u ≡ unitBytes d
   stored : Stored d
   sound : isSound d ≡ true
 
 module _ (d : Device) (u : List ℕ) (is : SoundBytes d u) where
-  next : (c : Call) (v : List ℕ) → v ≡ shut (step d c .unit) → SoundBytes (step d c .unit) v
+  next : (c : Call) (v : List ℕ) → v ≡ unitBytes (step d c .unit) → SoundBytes (step d c .unit) v
   next c v e = record { bytes = e; stored = keeps-stored d c (is .stored); sound = keeps-sound d c (is .sound) }
 
-  on-shut : (c : Call) → onBytes u c ≡ shutOf (step d c)
-  on-shut c = ap (λ (w : List ℕ). onBytes w c) (is .bytes) ∙ call-again d (is .stored) (is .sound) c
+  on-unit-bytes : (c : Call) → onBytes u c ≡ resultBytes (step d c)
+  on-unit-bytes c = ap (λ (w : List ℕ). onBytes w c) (is .bytes) ∙ call-again d (is .stored) (is .sound) c
 
 one-by-c : (d : Device) (u : List ℕ) (e : Event) (v : List ℕ) → SoundBytes d u → OneByC u e v → Steps OneByC SoundBytes d e v
 one-by-c d u e v is (unlent c _ r m h) =
-    let s = left-step (step d c) v r (silent d c m) (subst (λ (q : Left). Leaves q v r) (on-shut d u is c) h) in
+    let s = left-step (step d c) v r (silent d c m) (subst (λ (q : BytesResult). Returns q v r) (on-unit-bytes d u is c) h) in
     (λ i. record { verdict = s .verdict i; bytes = sym (s .bytes) i }, next d u is c v (s .unit))
 one-by-c d u e v is (lent c b b′ _ r _ h) =
-    let s = filled-step (step d c) v r b b′ (subst (λ (q : Left). Fills q b b′ v r) (on-shut d u is c) h) in
+    let s = filled-step (step d c) v r b b′ (subst (λ (q : BytesResult). Fills q b b′ v r) (on-unit-bytes d u is c) h) in
     (λ i. record { verdict = s .verdict i; bytes = s .bytes i }, next d u is c v (s .unit))
 
 -- from the bytes of any sound unit
-module _ (d : Device) (stored : Stored d) (sound : isSound d ≡ true) (u : List ℕ) (is : u ≡ shut d) (es : List Event) (u′ : List ℕ) (h : SeenByC u es u′) where
-  pub c-trace-from : (es ≡ trace step d (callsOf es)) × (u′ ≡ shut (after step d (callsOf es)))
+module _ (d : Device) (stored : Stored d) (sound : isSound d ≡ true) (u : List ℕ) (is : u ≡ unitBytes d) (es : List Event) (u′ : List ℕ) (h : SeenByC u es u′) where
+  pub c-trace-from : (es ≡ trace step d (callsOf es)) × (u′ ≡ unitBytes (after step d (callsOf es)))
   c-trace-from = let t = is-trace OneByC SoundBytes one-by-c h d (record { bytes = is; stored = stored; sound = sound }) in (t .0, t .1 .bytes)
 
 -- from any bytes that are those of a sound unit
-module _ (u : List ℕ) (lent-is : Lent u) (is : isUnit u ≡ true) (sound : isSound (opened u) ≡ true) (es : List Event) (u′ : List ℕ) (h : SeenByC u es u′) where
-  pub c-stored : Stored (opened u)
-  c-stored = opened-stored u (omega (arith, lent-is .long))
+module _ (u : List ℕ) (lent-is : Lent u) (is : isUnit u ≡ true) (sound : isSound (unitIn u) ≡ true) (es : List Event) (u′ : List ℕ) (h : SeenByC u es u′) where
+  pub c-stored : Stored (unitIn u)
+  c-stored = unit-stored u (omega (arith, lent-is .long))
 
-  pub c-from : (es ≡ trace step (opened u) (callsOf es)) × (u′ ≡ shut (after step (opened u) (callsOf es)))
-  c-from = c-trace-from (opened u) c-stored sound u (sym (again u lent-is is)) es u′ h
+  pub c-from : (es ≡ trace step (unitIn u) (callsOf es)) × (u′ ≡ unitBytes (after step (unitIn u) (callsOf es)))
+  c-from = c-trace-from (unitIn u) c-stored sound u (sym (again u lent-is is)) es u′ h
 
   pub c-bytes : AllInOctets (callsOf es)
   c-bytes = in-octets OneByC h
 
 -- from power-on
 module _ (setting : Setting) where
-  module _ (es : List Event) (u′ : List ℕ) (h : SeenByC (shut (powerOn setting .unit)) es u′) where
-    c-ever : (es ≡ trace step (powerOn setting .unit) (callsOf es)) × (u′ ≡ shut (after step (powerOn setting .unit) (callsOf es)))
+  module _ (es : List Event) (u′ : List ℕ) (h : SeenByC (unitBytes (powerOn setting .unit)) es u′) where
+    c-ever : (es ≡ trace step (powerOn setting .unit) (callsOf es)) × (u′ ≡ unitBytes (after step (powerOn setting .unit) (callsOf es)))
     c-ever = c-trace-from (powerOn setting .unit) (power-on-stored setting) (power-on-sound setting) _ refl es u′ h
 
     pub c-trace : es ≡ trace step (powerOn setting .unit) (callsOf es)
     c-trace = c-ever .0
 
-    pub c-left : u′ ≡ shut (after step (powerOn setting .unit) (callsOf es))
+    pub c-left : u′ ≡ unitBytes (after step (powerOn setting .unit) (callsOf es))
     c-left = c-ever .1
 
     pub c-octets : AllInOctets (callsOf es)
@@ -116,7 +118,7 @@ module _ (setting : Setting) where
 
   -- what holds of every trace of bytes
   pub c-holds : (Holds : List Event → Type 0) → ((calls : List Call) → AllInOctets calls → Holds (trace step (powerOn setting .unit) calls))
-      → (es : List Event) (u′ : List ℕ) → SeenByC (shut (powerOn setting .unit)) es u′ → Holds es
+      → (es : List Event) (u′ : List ℕ) → SeenByC (unitBytes (powerOn setting .unit)) es u′ → Holds es
   c-holds Holds always es u′ h = subst Holds (sym (c-trace es u′ h)) (always (callsOf es) (c-octets es u′ h))
 
 -- ** by value and in place

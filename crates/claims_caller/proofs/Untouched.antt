@@ -7,18 +7,18 @@ use mathlib.Core.List.{List}
 use mathlib.Core.Logic.{⊎-elim}
 use lib.ListN.{length, drop}
 use lib.Seq.{drop-at}
-use Rattle.rules.specs.Answers.{DONE, TELLS-NOTHING, Leaves as Left-as, as-ruled, unchanged, out-halted, leaves}
+use Rattle.rules.specs.Answers.{DONE, TELLS-NOTHING, Leaves, as-ruled, unchanged, out-halted, leaves}
 use Rattle.rules.specs.declared.verdict.Verdict.{Verdict}
 use Rattle.wire.specs.Bytes.{into}
-use Rattle.port.specs.Answer.{number, Answer as Said}
+use Rattle.port.specs.Answer.{numbered, Answer}
 use Rattle.port.specs.Device.{Device, Result}
 use Rattle.port.specs.Step.{in-poll, Call, out-packet, quiet, step}
 use Rattle.port.specs.Laws.{LeftAs}
 use Rattle.port.proofs.KeepsOut.{cases}
 use Rattle.port.proofs.Calls.{leaves-table}
-use Rattle.c_bytes.specs.Flat.{isUnit, opened}
-use Rattle.c_promise.specs.Promise.{Left, onBytes, Leaves, Fills}
-use Rattle.c_promise.specs.declared.types.Answer.{Answer}
+use Rattle.c_bytes.specs.Layout.{isUnit, unitIn}
+use Rattle.c_promise.specs.Promise.{BytesResult, onBytes, Returns, Fills}
+use Rattle.c_promise.specs.declared.types.TmcAnswer.{TmcAnswer}
 use Rattle.c_promise.proofs.Called.{on-unit, on-none}
 use Rattle.unit.specs.Promise.{deviceOf, doneOf, Tells}
 use Rattle.unit.specs.declared.types.Unit.{Unit}
@@ -31,10 +31,10 @@ use Rattle.claims_caller.specs.Seen.{Untouched}
 
 -- ** the rest of the buffer
 
-pub c-rest : (q : Left) (b b′ u′ : List ℕ) (r : Answer) → Fills q b b′ u′ r → drop (r .len) b′ ≡ drop (r .len) b
+pub c-rest : (q : BytesResult) (b b′ u′ : List ℕ) (r : TmcAnswer) → Fills q b b′ u′ r → drop (r .len) b′ ≡ drop (r .len) b
 c-rest q b b′ u′ r h =
     let bytes = q .answer .bytes in
-    let e : length bytes ≡ r .len = sym (ap (λ (a : Answer). a .len) (h .left .answer)) in
+    let e : length bytes ≡ r .len = sym (ap (λ (a : TmcAnswer). a .len) (h .left .answer)) in
     ap (drop (r .len)) (h .buffer) ∙ drop-at bytes (drop (length bytes) b) (r .len) e ∙ ap (λ (k : ℕ). drop k b) e
 
 pub unit-rest : (u : Unit) (c : Call) (b b′ : List ℕ) (t : Told) → Tells (step (deviceOf u) c) b b′ t → drop (t .len) b′ ≡ drop (t .len) b
@@ -43,13 +43,13 @@ unit-rest u c b b′ t h = told-step u c b b′ t h .rest
 -- ** an answer that is not 0
 
 -- it is the number alone
-abbrev Plain : Said → Type 0
-Plain a = (a .verdict .number ≡ DONE → ⊥) → a ≡ number (a .verdict .number)
+abbrev Plain : Answer → Type 0
+Plain a = (a .verdict .number ≡ DONE → ⊥) → a ≡ numbered (a .verdict .number)
 
 step-plain : (d : Device) (c : Call) → Plain (step d c .answer)
 step-plain d c n = by (leaves (step d c .answer .verdict .number)) (step d c) (leaves-table d c n)
   where
-    by : (x : Left-as) (q : Result) → LeftAs x d q → q .answer ≡ number (q .answer .verdict .number)
+    by : (x : Leaves) (q : Result) → LeftAs x d q → q .answer ≡ numbered (q .answer .verdict .number)
     by as-ruled q k = absurd k
     by unchanged q k = ap (λ (p : Result). p .answer) k
     by out-halted q k = ap (λ (p : Result). p .answer) k
@@ -57,34 +57,34 @@ step-plain d c n = by (leaves (step d c .answer .verdict .number)) (step d c) (l
 bytes-plain : (u : List ℕ) (c : Call) → Plain (onBytes u c .answer)
 bytes-plain u c =
     ⊎-elim
-    (λ is. subst (λ (q : Left). Plain (q .answer)) (sym (on-unit u c is)) (step-plain (opened u) c))
-    (λ is. subst (λ (q : Left). Plain (q .answer)) (sym (on-none u c is)) (λ _. refl))
+    (λ is. subst (λ (q : BytesResult). Plain (q .answer)) (sym (on-unit u c is)) (step-plain (unitIn u) c))
+    (λ is. subst (λ (q : BytesResult). Plain (q .answer)) (sym (on-none u c is)) (λ _. refl))
     (cases (isUnit u))
 
 -- what a caller sees of such an answer
-module _ {a : Said} (plain : Plain a) {v : Verdict} (is : v ≡ a .verdict) (refused : v .number ≡ DONE → ⊥) where
-  alone : a ≡ number (a .verdict .number)
+module _ {a : Answer} (plain : Plain a) {v : Verdict} (is : v ≡ a .verdict) (refused : v .number ≡ DONE → ⊥) where
+  alone : a ≡ numbered (a .verdict .number)
   alone = plain (λ e. refused (ap (λ (x : Verdict). x .number) is ∙ e))
 
   untold : v .tells ≡ TELLS-NOTHING
-  untold = ap (λ (x : Verdict). x .tells) is ∙ ap (λ (x : Said). x .verdict .tells) alone
+  untold = ap (λ (x : Verdict). x .tells) is ∙ ap (λ (x : Answer). x .verdict .tells) alone
 
   module _ {n : ℕ} (long : n ≡ length (a .bytes)) where
     empty : n ≡ 0
-    empty = long ∙ ap (λ (x : Said). length (x .bytes)) alone
+    empty = long ∙ ap (λ (x : Answer). length (x .bytes)) alone
 
     untouched : {b b′ : List ℕ} → b′ ≡ into (a .bytes) b → Untouched b b′ v n
-    untouched {b} put = record { buffer = put ∙ ap (λ (x : Said). into (x .bytes) b) alone; tells = untold; len = empty }
+    untouched {b} put = record { buffer = put ∙ ap (λ (x : Answer). into (x .bytes) b) alone; tells = untold; len = empty }
 
 -- ** from C, whatever the bytes of the unit
 
-module _ (u : List ℕ) (c : Call) (u′ : List ℕ) (r : Answer) (refused : r .verdict .number ≡ DONE → ⊥) where
-  module _ (h : Leaves (onBytes u c) u′ r) where
+module _ (u : List ℕ) (c : Call) (u′ : List ℕ) (r : TmcAnswer) (refused : r .verdict .number ≡ DONE → ⊥) where
+  module _ (h : Returns (onBytes u c) u′ r) where
     verdict : r .verdict ≡ onBytes u c .answer .verdict
-    verdict = ap (λ (x : Answer). x .verdict) (h .answer)
+    verdict = ap (λ (x : TmcAnswer). x .verdict) (h .answer)
 
     len : r .len ≡ length (onBytes u c .answer .bytes)
-    len = ap (λ (x : Answer). x .len) (h .answer)
+    len = ap (λ (x : TmcAnswer). x .len) (h .answer)
 
     pub c-untold : (r .verdict .tells ≡ TELLS-NOTHING) × (r .len ≡ 0)
     c-untold = (untold (bytes-plain u c) verdict refused, empty (bytes-plain u c) verdict refused len)

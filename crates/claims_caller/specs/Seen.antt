@@ -10,8 +10,8 @@ use Rattle.rules.specs.declared.verdict.Verdict.{Verdict}
 use Rattle.port.specs.Step.{in-poll, interrupt-poll, Call, out-packet, take-into, quiet, setup-of, step}
 use Rattle.port.specs.Trace.{Event, InOctets}
 use Rattle.port.proofs.Silent.{Mute}
-use Rattle.c_promise.specs.Promise.{onBytes, Leaves, Fills}
-use Rattle.c_promise.specs.declared.types.Answer.{Answer}
+use Rattle.c_promise.specs.Promise.{onBytes, Returns, Fills}
+use Rattle.c_promise.specs.declared.types.TmcAnswer.{TmcAnswer}
 use Rattle.unit.specs.Promise.{deviceOf, doneOf, Tells}
 use Rattle.unit.specs.declared.types.Unit.{Unit}
 use Rattle.unit.specs.declared.types.Done.{Done}
@@ -35,13 +35,14 @@ shows c v bytes = record { call = c; answer = record { verdict = v; bytes = byte
 
 -- from C, where a unit is bytes
 pub data OneByC (u : List ℕ) : Event → List ℕ → Type 0 where
-  unlent : (c : Call) (v : List ℕ) (r : Answer) → Mute c → Leaves (onBytes u c) v r → OneByC u (shows c (r .verdict) []) v
-  lent : (c : Call) (b b′ v : List ℕ) (r : Answer) → Lends c (length b) → Fills (onBytes u c) b b′ v r → OneByC u (shows c (r .verdict) (take (r .len) b′)) v
+  unlent : (c : Call) (v : List ℕ) (r : TmcAnswer) → Mute c → Returns (onBytes u c) v r → OneByC u (shows c (r .verdict) []) v
+  lent : (c : Call) (b b′ v : List ℕ) (r : TmcAnswer) → Lends c (length b) → Fills (onBytes u c) b b′ v r → OneByC u (shows c (r .verdict) (take (r .len) b′)) v
 
 -- of a unit by value, or where it stands
 pub data OneByUnit (u : Unit) : Event → Unit → Type 0 where
   returns : (c : Call) (r : Done) → Mute c → r ≡ doneOf (step (deviceOf u) c) → OneByUnit u (shows c (r .verdict) []) (r .unit)
-  writes : (c : Call) (b b′ : List ℕ) (t : Told) → Lends c (length b) → Tells (step (deviceOf u) c) b b′ t → OneByUnit u (shows c (t .verdict) (take (t .len) b′)) (t .unit)
+  writes : (c : Call) (b b′ : List ℕ) (t : Told) → Lends c (length b) → Tells (step (deviceOf u) c) b b′ t
+      → OneByUnit u (shows c (t .verdict) (take (t .len) b′)) (t .unit)
   packet-in-place : (s : List ℕ) (v : Unit) (r : Verdict) → Alters (step (deviceOf u) (out-packet s)) v r → OneByUnit u (shows (out-packet s) r []) v
   poll-in-place : (b b′ : List ℕ) (v : Unit) (r : Sent) → Sends (step (deviceOf u) (quiet (in-poll (length b)))) b b′ v r
       → OneByUnit u (shows (quiet (in-poll (length b))) (r .verdict) (take (r .len) b′)) v

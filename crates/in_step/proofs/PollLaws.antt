@@ -12,7 +12,8 @@ use lib.Seq.{paste, drop-cons, drop-length, length-take-le, take-all, take-take,
 use borrow.Author.Tests.{eq-eqb, ne-eqb, eqb-true, ltb-false, leb-true, leb-false}
 use Rattle.rules.specs.Choice.{_=ᵇ_, _<ᵇ_, _≤ᵇ_, pick, first}
 use Rattle.rules.specs.Answers.{done}
-use Rattle.rules.proofs.Choice.{NoneOf, no-true, no-false, ne-neb, eq-neb, or-left, or-right, or-none, and-both, and-left, and-right, either, pick-true, pick-false, at-true, at-false, pick-all, decide-all, refuses, passes}
+use Rattle.rules.proofs.Choice.{NoneOf, no-true, no-false, ne-neb, eq-neb, or-left, or-right, or-none, and-both, and-left, and-right}
+use Rattle.rules.proofs.Choice.{either, pick-true, pick-false, at-true, at-false, pick-all, decide-all, refuses, passes}
 use Rattle.wire.specs.Bytes.{byte, bytes4, into}
 use Rattle.wire.specs.Header.{HEADER, D1, inHeader}
 use Rattle.port.specs.Parts.{STORE, FULL-SPEED, HIGH-SPEED, CLOSED, ASKED, SENDING, OWED, on, isSize, inOf, packetSize, withIn, shut}
@@ -23,9 +24,10 @@ use Rattle.port.specs.Device.{unsentIn}
 use Rattle.port.specs.Given.{givenOf, Hands}
 use Rattle.port.specs.declared.types.BulkIn.{BulkIn}
 use Rattle.port.specs.declared.types.State.{State}
+use Rattle.port.proofs.Sizes.{size-of}
 use Rattle.port.proofs.Soundness.{Phase, is-closed, is-asked, is-sending, is-owed, sound-of}
 use Rattle.state_parts.proofs.Handed.{hands-by}
-use Rattle.in_step.specs.Poll.{Cuts, carried, afterPacket, Going, Starting, CanSend}
+use Rattle.in_step.specs.Poll.{Cuts, dataCount, afterPacket, Going, Starting, CanSend}
 use Rattle.in_step.specs.declared.types.InPacket.{InPacket}
 
 -- ** whether there is a packet to send
@@ -41,7 +43,8 @@ module _ (b : BulkIn) where
   sending-goes n e = sym (and-right _ _ (or-none _ _ (no-false _ (ne-neb (b .transfer .phase) CLOSED n)) (no-false _ (or-right _ _ (eq-eqb (b .transfer .phase) SENDING e)))))
 
   pub empty-waits : (b .transfer .phase ≡ OWED → ⊥) → (b .transfer .phase ≡ SENDING → ⊥) → b .reply .unsent ≡ 0 → true ≡ nothingToSend b
-  empty-waits o s e = sym (and-both _ _ (no-true _ (ne-eqb (b .transfer .phase) OWED o)) (or-right _ _ (no-true _ (or-none _ _ (eq-neb (b .reply .unsent) 0 e) (ne-eqb (b .transfer .phase) SENDING s)))))
+  empty-waits o s e =
+      sym (and-both _ _ (no-true _ (ne-eqb (b .transfer .phase) OWED o)) (or-right _ _ (no-true _ (or-none _ _ (eq-neb (b .reply .unsent) 0 e) (ne-eqb (b .transfer .phase) SENDING s)))))
 
   pub reply-goes : (b .transfer .phase ≡ CLOSED → ⊥) → (b .reply .unsent ≡ 0 → ⊥) → false ≡ nothingToSend b
   reply-goes n e = sym (and-right _ _ (or-none _ _ (no-false _ (ne-neb (b .transfer .phase) CLOSED n)) (no-false _ (or-left _ _ (ne-neb (b .reply .unsent) 0 e)))))
@@ -91,9 +94,11 @@ module _ (b : BulkIn) (reply : List ℕ) (held : b .reply .at + b .reply .unsent
   pub sendable-term : b .transfer .enabled ≡ 1 → upTo (b .transfer .term) (take (min (b .transfer .asked) (b .reply .unsent)) (drop (b .reply .at) reply)) ≡ sendable b (unsentIn b reply)
   sendable-term e =
       let most : ℕ = min (b .transfer .asked) (b .reply .unsent) in
-      let part : upTo (b .transfer .term) (take most (drop (b .reply .at) reply)) ≡ upTo (b .transfer .term) (take most (unsentIn b reply)) = ap (upTo (b .transfer .term)) (sym (take-take most (b .reply .unsent) (drop (b .reply .at) reply) (omega arith))) in
+      let part : upTo (b .transfer .term) (take most (drop (b .reply .at) reply)) ≡ upTo (b .transfer .term) (take most (unsentIn b reply)) =
+      ap (upTo (b .transfer .term)) (sym (take-take most (b .reply .unsent) (drop (b .reply .at) reply) (omega arith))) in
       let cut = up-take (b .transfer .term) most (unsentIn b reply) in
-      let chosen : pick (on (b .transfer .enabled)) (upTo (b .transfer .term) (unsentIn b reply)) (b .reply .unsent) ≡ upTo (b .transfer .term) (unsentIn b reply) = at-true _ _ _ (eq-eqb (b .transfer .enabled) 1 e) in
+      let chosen : pick (on (b .transfer .enabled)) (upTo (b .transfer .term) (unsentIn b reply)) (b .reply .unsent) ≡ upTo (b .transfer .term) (unsentIn b reply) =
+      at-true _ _ _ (eq-eqb (b .transfer .enabled) 1 e) in
       omega arith
 
   pub sendable-plain : (b .transfer .enabled ≡ 1 → ⊥) → min (b .transfer .asked) (b .reply .unsent) ≡ sendable b (unsentIn b reply)
@@ -104,7 +109,8 @@ module _ (b : BulkIn) (reply : List ℕ) (held : b .reply .at + b .reply .unsent
   pub sendable-some : (b .transfer .asked ≡ 0 → ⊥) → (b .reply .unsent ≡ 0 → ⊥) → 0 < sendable b (unsentIn b reply)
   sendable-some a u =
       let l = unsent-length in
-      let some : 0 < pick (on (b .transfer .enabled)) (upTo (b .transfer .term) (unsentIn b reply)) (b .reply .unsent) = pick-all (λ (n : ℕ). 0 < n) (on (b .transfer .enabled)) _ _ (λ _. up-some (b .transfer .term) (unsentIn b reply) (omega arith)) (λ _. omega arith) in
+      let some : 0 < pick (on (b .transfer .enabled)) (upTo (b .transfer .term) (unsentIn b reply)) (b .reply .unsent) =
+      pick-all (λ (n : ℕ). 0 < n) (on (b .transfer .enabled)) _ _ (λ _. up-some (b .transfer .term) (unsentIn b reply) (omega arith)) (λ _. omega arith) in
       omega arith
 
   -- the last byte, in the store
@@ -147,30 +153,31 @@ cut p h b unsent =
     record { side = pick (length packet <ᵇ p) (shut after) after; bytes = packet }
 
 module _ (p : ℕ) (h : List ℕ) (b : BulkIn) (unsent : List ℕ) (front : length h ≤ p) (left : b .transfer .left ≤ length unsent) where
-  packet-is : take p (h ++ take (b .transfer .left) unsent) ≡ h ++ take (carried p b (length h)) unsent
+  packet-is : take p (h ++ take (b .transfer .left) unsent) ≡ h ++ take (dataCount p b (length h)) unsent
   packet-is =
       let e : p ≡ length h + (p - length h) = omega arith in
       ap (λ (k : ℕ). take k (h ++ take (b .transfer .left) unsent)) e ∙ take-append-add h (take (b .transfer .left) unsent) (p - length h)
       ∙ ap (λ (s : List ℕ). h ++ s) (take-min (p - length h) (b .transfer .left) unsent)
 
-  packet-length : length (h ++ take (carried p b (length h)) unsent) ≡ length h + carried p b (length h)
-  packet-length = length-append h (take (carried p b (length h)) unsent) ∙ ap (λ (k : ℕ). length h + k) (length-take-le (carried p b (length h)) unsent (omega arith))
+  packet-length : length (h ++ take (dataCount p b (length h)) unsent) ≡ length h + dataCount p b (length h)
+  packet-length = length-append h (take (dataCount p b (length h)) unsent) ∙ ap (λ (k : ℕ). length h + k) (length-take-le (dataCount p b (length h)) unsent (omega arith))
 
-  cut-is : cut p h b unsent ≡ record { side = afterPacket p b (length h) (carried p b (length h)) .side; bytes = h ++ take (carried p b (length h)) unsent }
+  cut-is : cut p h b unsent ≡ record { side = afterPacket p b (length h) (dataCount p b (length h)) .side; bytes = h ++ take (dataCount p b (length h)) unsent }
   unfolding cut afterPacket
   cut-is =
-      let size : length (take p (h ++ take (b .transfer .left) unsent)) ≡ length h + carried p b (length h) = ap length packet-is ∙ packet-length in
-      let count : length (take p (h ++ take (b .transfer .left) unsent)) - length h ≡ carried p b (length h) = omega arith in
+      let size : length (take p (h ++ take (b .transfer .left) unsent)) ≡ length h + dataCount p b (length h) = ap length packet-is ∙ packet-length in
+      let count : length (take p (h ++ take (b .transfer .left) unsent)) - length h ≡ dataCount p b (length h) = omega arith in
       λ i. record { side = pick (size i <ᵇ p) (shut (gone b (count i))) (gone b (count i)); bytes = packet-is i }
 
 cuts-by : (r : InPacket) (before after : List ℕ) {packet packet′ : Packet} → packet ≡ packet′ → Cuts packet r before after → Cuts packet′ r before after
 cuts-by r before after e = subst (λ (x : Packet). Cuts x r before after) e
 
-module _ (p : ℕ) (h : List ℕ) (b : BulkIn) (src before mid : List ℕ) (count : ℕ) (fits : length h ≤ p) (left : b .transfer .left ≤ count) (held : count ≤ length src) (written : mid ≡ into h before) where
-  cut-whole : Cuts (cut p h b (take count src)) (afterPacket p b (length h) (carried p b (length h))) before (paste mid (length h) src (carried p b (length h)))
+module _ (p : ℕ) (h : List ℕ) (b : BulkIn) (src before mid : List ℕ) (count : ℕ) (fits : length h ≤ p) (left : b .transfer .left ≤ count) (held : count ≤ length src)
+    (written : mid ≡ into h before) where
+  cut-whole : Cuts (cut p h b (take count src)) (afterPacket p b (length h) (dataCount p b (length h))) before (paste mid (length h) src (dataCount p b (length h)))
   unfolding afterPacket
   cut-whole =
-      let k : ℕ = carried p b (length h) in
+      let k : ℕ = dataCount p b (length h) in
       let whole : length (take count src) ≡ count = length-take-le count src held in
       let part : take k (take count src) ≡ take k src = take-take k count src (omega arith) in
       let is : cut p h b (take count src) ≡ record { side = afterPacket p b (length h) k .side; bytes = h ++ take k src } =
@@ -178,8 +185,8 @@ module _ (p : ℕ) (h : List ℕ) (b : BulkIn) (src before mid : List ℕ) (coun
       let size : length (h ++ take k src) ≡ length h + k = length-append h (take k src) ∙ ap (λ (m : ℕ). length h + m) (length-take-le k src (omega arith)) in
       cuts-by _ before _ (sym is) (λ i. record { side = afterPacket p b (length h) k .side; len = sym size i }, pasted h src before mid k (omega arith) written)
 
-  cut-cuts : (front : ℕ) → length h ≡ front → Cuts (cut p h b (take count src)) (afterPacket p b front (carried p b front)) before (paste mid front src (carried p b front))
-  cut-cuts front e = subst (λ (f : ℕ). Cuts (cut p h b (take count src)) (afterPacket p b f (carried p b f)) before (paste mid f src (carried p b f))) e cut-whole
+  cut-cuts : (front : ℕ) → length h ≡ front → Cuts (cut p h b (take count src)) (afterPacket p b front (dataCount p b front)) before (paste mid front src (dataCount p b front))
+  cut-cuts front e = subst (λ (f : ℕ). Cuts (cut p h b (take count src)) (afterPacket p b f (dataCount p b f)) before (paste mid f src (dataCount p b f))) e cut-whole
 
 -- ** the packet of a side
 
@@ -215,8 +222,8 @@ module _ (p : ℕ) (b : BulkIn) (reply before : List ℕ) (r : InPacket) (after 
   -- the first packet, by its N
   pub first-cuts : (n : ℕ) (mid : List ℕ) → b .transfer .phase ≡ ASKED → HEADER ≤ p → n ≡ sendable b (unsentIn b reply)
       → mid ≡ into (inHeader (b .transfer .tag) n (marks b (unsentIn b reply) n)) before
-      → r ≡ afterPacket p (fixed b (unsentIn b reply)) HEADER (carried p (fixed b (unsentIn b reply)) HEADER)
-      → after ≡ paste mid HEADER (drop (b .reply .at) reply) (carried p (fixed b (unsentIn b reply)) HEADER)
+      → r ≡ afterPacket p (fixed b (unsentIn b reply)) HEADER (dataCount p (fixed b (unsentIn b reply)) HEADER)
+      → after ≡ paste mid HEADER (drop (b .reply .at) reply) (dataCount p (fixed b (unsentIn b reply)) HEADER)
       → Cuts (send p b (unsentIn b reply)) r before after
   unfolding fixed
   first-cuts n mid e f m w g q =
@@ -228,7 +235,8 @@ module _ (p : ℕ) (b : BulkIn) (reply before : List ℕ) (r : InPacket) (after 
       let h = cut-cuts p head (fixed b unsent) (drop (b .reply .at) reply) before mid (b .reply .unsent) (omega arith) (omega arith) in-store w HEADER long in
       cuts-by r before after is (g ∙ h .0, q ∙ h .1)
 
-  pub next-cuts : (b .transfer .phase ≡ ASKED → ⊥) → b .transfer .left ≤ b .reply .unsent → r ≡ afterPacket p b 0 (carried p b 0) → after ≡ paste before 0 (drop (b .reply .at) reply) (carried p b 0)
+  pub next-cuts : (b .transfer .phase ≡ ASKED → ⊥) → b .transfer .left ≤ b .reply .unsent → r ≡ afterPacket p b 0 (dataCount p b 0) → after ≡ paste before 0 (drop (b .reply .at) reply)
+      (dataCount p b 0)
       → Cuts (send p b (unsentIn b reply)) r before after
   next-cuts e l g q =
       let unsent : List ℕ = unsentIn b reply in
@@ -264,12 +272,14 @@ module _ (st : State) (unsent : List ℕ) (room number : ℕ) (gate : number ≡
 -- a poll that is not refused, and is owed no packet, finds one that can go
 module _ (st : State) (room number : ℕ) (whole : sound st ≡ true) (gate : number ≡ first (inRules st room) 0) (passed : number ≡ 0) (unowed : inOf st .transfer .phase ≡ OWED → ⊥) where
   pub poll-can : CanSend (packetSize st) (inOf st) room
-  poll-can = decide-all (λ (n : ℕ). n ≡ 0 → CanSend (packetSize st) (inOf st) room) (λ n. n) (inRules st room) 0 (λ e. absurd (omega arith), (λ e. absurd (omega arith), (λ e. absurd (omega arith), (λ e. absurd (omega arith), tt)))) can (sym gate ∙ passed)
+  poll-can = decide-all (λ (n : ℕ). n ≡ 0 → CanSend (packetSize st) (inOf st) room) (λ n. n) (inRules st room) 0
+      (λ e. absurd (omega arith), (λ e. absurd (omega arith), (λ e. absurd (omega arith), (λ e. absurd (omega arith), tt)))) can (sym gate ∙ passed)
     where
       size : isSize (packetSize st) ≡ true → HEADER ≤ packetSize st
-      size e = ⊎-elim (λ t. let p = eqb-true (packetSize st) FULL-SPEED t in omega arith) (λ t. let p = eqb-true (packetSize st) HIGH-SPEED t in omega arith) (either _ _ e)
+      size e = let k = size-of (packetSize st) e .least in omega arith
 
-      starting : Phase (inOf st .reply .unsent) (inOf st .transfer) → nothingToSend (inOf st) ≡ false → inOf st .reply .at + inOf st .reply .unsent ≤ STORE → inOf st .transfer .phase ≡ ASKED → Starting (inOf st)
+      starting : Phase (inOf st .reply .unsent) (inOf st .transfer) → nothingToSend (inOf st) ≡ false → inOf st .reply .at + inOf st .reply .unsent ≤ STORE → inOf st .transfer .phase ≡ ASKED
+          → Starting (inOf st)
       starting (is-closed e t i) n r a = absurd (omega arith)
       starting (is-asked e s) n r a = record {
         asked = s .some;
@@ -279,7 +289,8 @@ module _ (st : State) (room number : ℕ) (whole : sound st ≡ true) (gate : nu
       starting (is-sending e s) n r a = absurd (omega arith)
       starting (is-owed e t i) n r a = absurd (omega arith)
 
-      going : Phase (inOf st .reply .unsent) (inOf st .transfer) → nothingToSend (inOf st) ≡ false → inOf st .reply .at + inOf st .reply .unsent ≤ STORE → (inOf st .transfer .phase ≡ ASKED → ⊥) → Going (inOf st)
+      going : Phase (inOf st .reply .unsent) (inOf st .transfer) → nothingToSend (inOf st) ≡ false → inOf st .reply .at + inOf st .reply .unsent ≤ STORE
+          → (inOf st .transfer .phase ≡ ASKED → ⊥) → Going (inOf st)
       going (is-closed e t i) n r a = absurd (true≢false (closed-waits (inOf st) unowed e ∙ n))
       going (is-asked e s) n r a = absurd (a e)
       going (is-sending e s) n r a = record { left = s .stored; reply = r; sent = s .count }

@@ -19,8 +19,8 @@ abbrev pub Cuts : Packet → InPacket → List ℕ → List ℕ → Type 0
 Cuts packet r before after = (r ≡ record { side = packet .side; len = length (packet .bytes) }) × (after ≡ into (packet .bytes) before)
 
 -- as many data bytes as are to go and have room behind `front` header bytes
-abbrev pub carried : ℕ → BulkIn → ℕ → ℕ
-carried p b front = min (p - front) (b .transfer .left)
+abbrev pub dataCount : ℕ → BulkIn → ℕ → ℕ
+dataCount p b front = min (p - front) (b .transfer .left)
 
 -- what a packet with `count` of them leaves of the side b: a short one closes the transfer
 unfoldable pub afterPacket : ℕ → BulkIn → ℕ → ℕ → InPacket

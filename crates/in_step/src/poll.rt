@@ -22,6 +22,8 @@ use state_parts::parts::shut;
 use state_parts::parts::with_in;
 use state_sound::sound::sound;
 use wire_code::copies::copy_in;
+use wire_code::header::D0;
+use wire_code::header::D1;
 use wire_code::header::HEADER;
 use wire_code::header::write_header;
 use wire_code::numbers::least;
@@ -32,12 +34,15 @@ ghost use Prim.Native.Nat.{_+_, _≤_, _<_};
 ghost use lib.ListN.{length, take, drop};
 ghost use lib.Seq.{paste};
 ghost use Rattle.rules.specs.Choice.{pick, first};
+ghost use Rattle.rules.specs.Answers.{UNSOUND};
+ghost use Rattle.wire.specs.Header.{HEADER};
+ghost use Rattle.port.specs.Parts.{STORE, ASKED};
 ghost use Rattle.port.specs.Sound.{sound};
 ghost use Rattle.port.specs.Answer.{refuse};
 ghost use Rattle.port.specs.In.{upTo, sendable, endMark, termMark, fixed, gone, send, nextPacket, nothingToSend, inRules, poll};
 ghost use Rattle.port.specs.Device.{unsentIn};
 ghost use Rattle.port.specs.Given.{Hands};
-ghost use Rattle.in_step.specs.Poll.{carried, afterPacket, Going, Fits, Starting, CanSend, CanPoll, Cuts};
+ghost use Rattle.in_step.specs.Poll.{dataCount, afterPacket, Going, Fits, Starting, CanSend, CanPoll, Cuts};
 
 // No packet is owed, and no transfer is open or no reply is stored.
 fn nothing_to_send(b: BulkIn) -> bool
@@ -110,7 +115,7 @@ fn end_mark(b: BulkIn, n: usize) -> u8
     ensures { λ r. ⌜ (r ≡ endMark b n) × (r < 2) ⌝ }
 {
     if n == widened(b.reply.unsent) {
-        return 1;
+        return D0;
     }
     0
 }
@@ -123,7 +128,7 @@ fn term_mark(reply: &[u8], b: BulkIn, n: usize) -> u8
     if b.transfer.enabled == 1 {
         let last = widened(b.reply.at) + (n - 1);
         if reply[last] == b.transfer.term {
-            return 2;
+            return D1;
         }
         return 0;
     }
@@ -157,7 +162,7 @@ fn gone(b: BulkIn, count: usize) -> BulkIn
 
 // What a packet of at most `p` bytes leaves of the side b, once `count` data bytes have gone behind `front` header bytes.
 fn after_packet(p: usize, b: BulkIn, front: usize, count: usize) -> InPacket
-    requires { ⌜ Going b × (count ≤ b .transfer .left) × (front ≤ 12) ⌝ }
+    requires { ⌜ Going b × (count ≤ b .transfer .left) × (front ≤ HEADER) ⌝ }
     ensures { λ r. ⌜ r ≡ afterPacket p b front count ⌝ }
 {
     let after = gone(b, count);
@@ -172,9 +177,10 @@ fn after_packet(p: usize, b: BulkIn, front: usize, count: usize) -> InPacket
 }
 
 // The data of a packet, behind its `front` header bytes.
-fn carry(reply: &[u8], p: usize, b: BulkIn, front: usize, buf: &mut [u8]) -> InPacket
-    requires { ⌜ Going b × Fits p front (length (now buf)) × (front ≤ 12) × (1024 ≤ length (now reply)) ⌝ }
-    ensures { λ r. ⌜ (r ≡ afterPacket p b front (carried p b front)) × (now (buf .exit) ≡ paste (now (buf .entry)) front (drop (b .reply .at) (now (reply .entry))) (carried p b front)) ⌝ }
+fn put_data(reply: &[u8], p: usize, b: BulkIn, front: usize, buf: &mut [u8]) -> InPacket
+    requires { ⌜ Going b × Fits p front (length (now buf)) × (front ≤ HEADER) × (STORE ≤ length (now reply)) ⌝ }
+    ensures { λ r. ⌜ (r ≡ afterPacket p b front (dataCount p b front))
+        × (now (buf .exit) ≡ paste (now (buf .entry)) front (drop (b .reply .at) (now (reply .entry))) (dataCount p b front)) ⌝ }
 {
     let count = least(p - front, widened(b.transfer.left));
     copy_in(buf, front, reply, widened(b.reply.at), count);
@@ -183,30 +189,30 @@ fn carry(reply: &[u8], p: usize, b: BulkIn, front: usize, buf: &mut [u8]) -> InP
 
 // The first packet of a transfer: it fixes N, and has the header.
 fn first_packet(reply: &[u8], p: usize, b: BulkIn, buf: &mut [u8]) -> InPacket
-    requires { ⌜ (b .transfer .phase ≡ 1) × Starting b × Fits p 12 (length (now buf)) × (1024 ≤ length (now reply)) ⌝ }
+    requires { ⌜ (b .transfer .phase ≡ ASKED) × Starting b × Fits p HEADER (length (now buf)) × (STORE ≤ length (now reply)) ⌝ }
     ensures { λ r. ⌜ Cuts (send p b (unsentIn b (now (reply .entry)))) r (now (buf .entry)) (now (buf .exit)) ⌝ }
 {
     let started = fixed(reply, b);
     let n = widened(started.transfer.left);
     let attributes = end_mark(b, n) + term_mark(reply, b, n);
     write_header(buf, b.transfer.tag, n as u32, attributes);
-    carry(reply, p, started, HEADER, buf)
+    put_data(reply, p, started, HEADER, buf)
 }
 
 // A packet of the open transfer.
 fn packet(reply: &[u8], p: usize, b: BulkIn, buf: &mut [u8]) -> InPacket
-    requires { ⌜ CanSend p b (length (now buf)) × (1024 ≤ length (now reply)) ⌝ }
+    requires { ⌜ CanSend p b (length (now buf)) × (STORE ≤ length (now reply)) ⌝ }
     ensures { λ r. ⌜ Cuts (send p b (unsentIn b (now (reply .entry)))) r (now (buf .entry)) (now (buf .exit)) ⌝ }
 {
     if b.transfer.phase == ASKED {
         return first_packet(reply, p, b, buf);
     }
-    carry(reply, p, b, 0, buf)
+    put_data(reply, p, b, 0, buf)
 }
 
 // The next packet of at most `p` bytes, cut from a store that begins with the reply.
 pub fn next_packet(reply: &[u8], p: usize, b: BulkIn, buf: &mut [u8]) -> InPacket
-    requires { ⌜ CanPoll p b (length (now buf)) × (1024 ≤ length (now reply)) ⌝ }
+    requires { ⌜ CanPoll p b (length (now buf)) × (STORE ≤ length (now reply)) ⌝ }
     ensures { λ r. ⌜ Cuts (nextPacket p b (unsentIn b (now (reply .entry)))) r (now (buf .entry)) (now (buf .exit)) ⌝ }
 {
     if b.transfer.phase == OWED {
@@ -219,7 +225,7 @@ pub fn next_packet(reply: &[u8], p: usize, b: BulkIn, buf: &mut [u8]) -> InPacke
 }
 
 fn poll_from(reply: &[u8], st: State, b: &mut [u8]) -> Given
-    requires { ⌜ (1024 ≤ length (now reply)) × (sound st ≡ true) ⌝ }
+    requires { ⌜ (STORE ≤ length (now reply)) × (sound st ≡ true) ⌝ }
     ensures { λ r. ⌜ Hands (poll st (unsentIn (st .small .bulkin) (now (reply .entry))) (length (now (b .entry)))) r (now (b .entry)) (now (b .exit)) ⌝ }
 {
     let number = in_gate(st, b.len());
@@ -238,7 +244,8 @@ fn poll_from(reply: &[u8], st: State, b: &mut [u8]) -> Given
 
 // The step that the by-value call and the in-place form share.
 pub fn poll_step(reply: &[u8; 1024], st: State, b: &mut [u8]) -> Given
-    ensures { λ r. ⌜ Hands (pick (sound st) (poll st (unsentIn (st .small .bulkin) (now (reply .entry))) (length (now (b .entry)))) (refuse st 1)) r (now (b .entry)) (now (b .exit)) ⌝ }
+    ensures { λ r. ⌜ Hands (pick (sound st) (poll st (unsentIn (st .small .bulkin) (now (reply .entry))) (length (now (b .entry)))) (refuse st UNSOUND)) r
+        (now (b .entry)) (now (b .exit)) ⌝ }
 {
     if sound(st) {
         return poll_from(reply, st, b);

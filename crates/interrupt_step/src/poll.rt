@@ -17,6 +17,7 @@ ghost use mathlib.Core.Path.{_≡_};
 ghost use Prim.Native.Nat.{ℕ, _≤_};
 ghost use lib.ListN.{length};
 ghost use Rattle.rules.specs.Choice.{pick, first};
+ghost use Rattle.rules.specs.Answers.{UNSOUND};
 ghost use Rattle.wire.specs.Bytes.{into};
 ghost use Rattle.port.specs.Sound.{sound};
 ghost use Rattle.port.specs.Answer.{refuse};
@@ -72,7 +73,7 @@ fn poll_from(st: State, b: &mut [u8]) -> Given
 }
 
 pub fn interrupt_step(st: State, b: &mut [u8]) -> Given
-    ensures { λ r. ⌜ Hands (pick (sound st) (interruptPoll st (length (now (b .entry)))) (refuse st 1)) r (now (b .entry)) (now (b .exit)) ⌝ }
+    ensures { λ r. ⌜ Hands (pick (sound st) (interruptPoll st (length (now (b .entry)))) (refuse st UNSOUND)) r (now (b .entry)) (now (b .exit)) ⌝ }
 {
     if sound(st) {
         return poll_from(st, b);

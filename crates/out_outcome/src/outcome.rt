@@ -17,6 +17,7 @@ use rules::WRONG_LENGTH;
 use rules::WRONG_SIZE;
 use wire::types::Header;
 use wire::types::Read;
+use wire_code::header::FOUR;
 use wire_code::header::HEADER;
 use wire_code::header::read_header;
 use wire_code::numbers::all_zero;
@@ -70,7 +71,7 @@ fn more(p: usize, left: u16, s: &[u8]) -> Outcome
     ensures { λ r. ⌜ r ≡ more p left (now (s .entry)) ⌝ }
 {
     let n = s.len();
-    if n % 4 != 0 {
+    if n % FOUR != 0 {
         return Outcome::Halt {
             number: NOT_IN_FOURS,
         };

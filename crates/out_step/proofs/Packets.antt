@@ -38,7 +38,8 @@ module _ (st : State) (s : List ℕ) where
 
   more-carried : OutSound (outOf st) → (outOf st .transfer .left ≡ 0 → ⊥) → Carried (more (packetSize st) (outOf st .transfer .left) s)
   unfolding more Carried
-  more-carried (inl w) e = let r = w .1 .room in let g = w .1 .within in decide-all Carried Halt (moreRules (packetSize st) (outOf st .transfer .left) s) _ (tt, (tt, (tt, tt))) (λ _. ((omega arith, omega arith, omega arith), omega arith))
+  more-carried (inl w) e = let r = w .1 .room in let g = w .1 .within in decide-all Carried Halt (moreRules (packetSize st) (outOf st .transfer .left) s) _ (tt, (tt, (tt, tt)))
+      (λ _. ((omega arith, omega arith, omega arith), omega arith))
   more-carried (inr w) e = absurd (e (w .0))
 
   accept-carried : (h : Header) → outOf st .message .held + dataLength h ≤ STORE → HEADER ≤ length s → Carried (Accept h (min (dataLength h) (length s - HEADER)))

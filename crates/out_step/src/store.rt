@@ -21,7 +21,8 @@ ghost use Rattle.port.specs.Out.{plain, outPlan};
 
 fn packet_into(store: &mut [u8], st: State, s: &[u8]) -> Plan
     requires { ⌜ (1024 ≤ length (now store)) × (sound st ≡ true) ⌝ }
-    ensures { λ r. ⌜ (r ≡ outPlan st (now (s .entry))) × (now (store .exit) ≡ paste (now (store .entry)) (st .small .bulkout .message .held) (drop (r .from) (now (s .entry))) (r .count)) ⌝ }
+    ensures { λ r. ⌜ (r ≡ outPlan st (now (s .entry))) × (now (store .exit) ≡ paste (now (store .entry)) (st .small .bulkout .message .held)
+        (drop (r .from) (now (s .entry))) (r .count)) ⌝ }
 {
     let x = outcome(st, s);
     let plan = planned(st, x);
@@ -37,7 +38,8 @@ fn packet_into(store: &mut [u8], st: State, s: &[u8]) -> Plan
 
 // The step that the by-value call and the in-place form share: the packet's data goes behind what the message holds.
 pub fn packet_step(message: &mut [u8; 1024], st: State, s: &[u8]) -> Plan
-    ensures { λ r. ⌜ (r ≡ pick (sound st) (outPlan st (now (s .entry))) (plain st (only 1))) × (now (message .exit) ≡ paste (now (message .entry)) (st .small .bulkout .message .held) (drop (r .from) (now (s .entry))) (r .count)) ⌝ }
+    ensures { λ r. ⌜ (r ≡ pick (sound st) (outPlan st (now (s .entry))) (plain st (only 1)))
+        × (now (message .exit) ≡ paste (now (message .entry)) (st .small .bulkout .message .held) (drop (r .from) (now (s .entry))) (r .count)) ⌝ }
 {
     if sound(st) {
         return packet_into(message, st, s);

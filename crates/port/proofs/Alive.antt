@@ -36,7 +36,8 @@ module _ (u : Device) (stored : Stored u) (h : Sound (u .state)) where
   held-length = length-take-le (outOf (u .state) .message .held) (u .message) (let a = stored .message in let b = out-held (u .state) h in omega arith)
 
   pub unsent-length : length (unsentOf u) ≡ inOf (u .state) .reply .unsent
-  unsent-length = length-take-le (inOf (u .state) .reply .unsent) (drop (inOf (u .state) .reply .at) (u .reply)) (let a = stored .reply in let b = h .inward .reply in let c = length-drop (inOf (u .state) .reply .at) (u .reply) in omega arith)
+  unsent-length = length-take-le (inOf (u .state) .reply .unsent) (drop (inOf (u .state) .reply .at) (u .reply)) (let a = stored .reply in let b = h .inward .reply in
+      let c = length-drop (inOf (u .state) .reply .at) (u .reply) in omega arith)
 
   -- the bytes of the live part stand at the front
   pub held-alive : heldOf (alive (live u)) ≡ heldOf u
@@ -107,5 +108,6 @@ module _ (u : Device) (stored : Stored u) (h : Sound (u .state)) where
   same-message j e =
       sym (take-take j (outOf (u .state) .message .held) (u .message) e) ∙ ap (take j) (sym (held-alive u stored h)) ∙ twin-held u j e
 
-  pub same-reply : (k : ℕ) → take (inOf (u .state) .reply .unsent - k) (drop (inOf (u .state) .reply .at + k) (u .reply)) ≡ take (inOf (u .state) .reply .unsent - k) (drop (inOf (twin .state) .reply .at + k) (twin .reply))
+  pub same-reply : (k : ℕ) → take (inOf (u .state) .reply .unsent - k) (drop (inOf (u .state) .reply .at + k) (u .reply)) ≡ take (inOf (u .state) .reply .unsent - k)
+      (drop (inOf (twin .state) .reply .at + k) (twin .reply))
   same-reply k = rest (u .reply) (inOf (u .state) .reply .unsent) (inOf (u .state) .reply .at) k ∙ ap (drop k) (sym (unsent-alive u stored h)) ∙ sym (twin-rest u k)

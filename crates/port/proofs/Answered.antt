@@ -8,10 +8,11 @@ use mathlib.Core.List.{List, [], _∷_}
 use mathlib.Core.Logic.{_⊎_, inl, inr, ⊎-elim}
 use lib.ListN.{replicate}
 use Rattle.rules.specs.Answers.{DONE, UNSOUND}
-use Rattle.wire.specs.Header.{OFF}
+use Rattle.rules.specs.Flags.{OFF}
 use Rattle.port.specs.Device.{Device, Result, isSound, made, powerOn}
-use Rattle.port.specs.Step.{in-poll, interrupt-poll, offer-reply, set-status, front-panel, bus-suspend, Call, out-packet, take-into, bus-reset, quiet, setup-of, step, after}
-use Rattle.port.specs.Lists.{Kind, setup, out, poll, interrupting, taking, offering, status, panel, reset, suspending, kindOf, own}
+use Rattle.port.specs.Step.{in-poll, interrupt-poll, offer-reply, set-status, front-panel, bus-suspend}
+use Rattle.port.specs.Step.{Call, out-packet, take-into, bus-reset, quiet, setup-of, step, after}
+use Rattle.port.specs.Lists.{Kind, setups, outs, polls, interrupts, takes, offers, statuses, panels, resets, suspends, kindOf, own}
 use Rattle.port.specs.Laws.{OneOf, Reachable, Answered, EachAnswered}
 use Rattle.port.specs.Cases.{packet, message, request}
 use Rattle.port.proofs.Opened.{computed}
@@ -57,13 +58,13 @@ half = message 1 1 0 (7 ∷ 0 ∷ 0 ∷ 0 ∷ [])
 -- ** the witnesses
 
 unfoldable witnesses : Kind → List Witness
-witnesses setup =
+witnesses setups =
     on-fresh (setup-of (0x00 ∷ 9 ∷ 1 ∷ 0 ∷ 0 ∷ 0 ∷ 0 ∷ 0 ∷ []) 24)
     ∷ on-unsound (setup-of [] 24)
     ∷ on-fresh (setup-of [] 24)
     ∷ on-fresh (setup-of (replicate 8 0) 24)
     ∷ []
-witnesses out =
+witnesses outs =
     on-behind [] (out-packet [])
     ∷ on-unsound (out-packet [])
     ∷ on-fresh (out-packet [])
@@ -80,7 +81,7 @@ witnesses out =
     ∷ on-behind [] (message 1 1 1 [])
     ∷ on-behind [] (message 1 1 1 (7 ∷ 0 ∷ 0 ∷ 1 ∷ []))
     ∷ []
-witnesses poll =
+witnesses polls =
     on-behind (quiet (offer-reply (7 ∷ [])) ∷ request 1 1 ∷ []) (quiet (in-poll 64))
     ∷ on-unsound (quiet (in-poll 64))
     ∷ on-fresh (quiet (in-poll 64))
@@ -88,7 +89,7 @@ witnesses poll =
     ∷ on-behind (halt 0x82 ∷ []) (quiet (in-poll 64))
     ∷ on-behind [] (quiet (in-poll 64))
     ∷ []
-witnesses interrupting =
+witnesses interrupts =
     on-behind (quiet (set-status 64) ∷ []) (quiet (interrupt-poll 2))
     ∷ on-unsound (quiet (interrupt-poll 2))
     ∷ on-fresh (quiet (interrupt-poll 2))
@@ -96,24 +97,24 @@ witnesses interrupting =
     ∷ on-behind (quiet (set-status 64) ∷ halt 0x83 ∷ []) (quiet (interrupt-poll 2))
     ∷ on-behind [] (quiet (interrupt-poll 2))
     ∷ []
-witnesses taking =
+witnesses takes =
     on-behind (whole ∷ []) (take-into 1)
     ∷ on-unsound (take-into 1)
     ∷ on-fresh (take-into 1)
     ∷ on-behind (half ∷ []) (take-into 1)
     ∷ on-behind (whole ∷ []) (take-into 0)
     ∷ []
-witnesses offering =
+witnesses offers =
     on-behind [] (quiet (offer-reply (7 ∷ [])))
     ∷ on-unsound (quiet (offer-reply (7 ∷ [])))
     ∷ on-fresh (quiet (offer-reply (7 ∷ [])))
     ∷ on-behind [] (quiet (offer-reply []))
     ∷ on-behind (quiet (offer-reply (7 ∷ [])) ∷ []) (quiet (offer-reply (7 ∷ [])))
     ∷ []
-witnesses status = on-behind [] (quiet (set-status 0)) ∷ on-unsound (quiet (set-status 0)) ∷ on-fresh (quiet (set-status 0)) ∷ []
-witnesses panel = on-behind [] (quiet front-panel) ∷ on-unsound (quiet front-panel) ∷ on-fresh (quiet front-panel) ∷ []
-witnesses reset = on-fresh bus-reset ∷ on-unsound bus-reset ∷ []
-witnesses suspending = on-fresh (quiet bus-suspend) ∷ on-unsound (quiet bus-suspend) ∷ []
+witnesses statuses = on-behind [] (quiet (set-status 0)) ∷ on-unsound (quiet (set-status 0)) ∷ on-fresh (quiet (set-status 0)) ∷ []
+witnesses panels = on-behind [] (quiet front-panel) ∷ on-unsound (quiet front-panel) ∷ on-fresh (quiet front-panel) ∷ []
+witnesses resets = on-fresh bus-reset ∷ on-unsound bus-reset ∷ []
+witnesses suspends = on-fresh (quiet bus-suspend) ∷ on-unsound (quiet bus-suspend) ∷ []
 
 -- ** they answer what the list says
 
@@ -128,29 +129,29 @@ Fitting k (w ∷ ws) = (kindOf (callOf w) ≡ k) × Fitting k ws
 
 answer : (k : Kind) → numbers (witnesses k) ≡ DONE ∷ own k
 unfolding computed witnesses own
-answer setup = refl
-answer out = refl
-answer poll = refl
-answer interrupting = refl
-answer taking = refl
-answer offering = refl
-answer status = refl
-answer panel = refl
-answer reset = refl
-answer suspending = refl
+answer setups = refl
+answer outs = refl
+answer polls = refl
+answer interrupts = refl
+answer takes = refl
+answer offers = refl
+answer statuses = refl
+answer panels = refl
+answer resets = refl
+answer suspends = refl
 
 fitting : (k : Kind) → Fitting k (witnesses k)
 unfolding witnesses
-fitting setup = (refl, (refl, (refl, (refl, tt))))
-fitting out = (refl, (refl, (refl, (refl, (refl, (refl, (refl, (refl, (refl, (refl, (refl, (refl, (refl, (refl, (refl, tt)))))))))))))))
-fitting poll = (refl, (refl, (refl, (refl, (refl, (refl, tt))))))
-fitting interrupting = (refl, (refl, (refl, (refl, (refl, (refl, tt))))))
-fitting taking = (refl, (refl, (refl, (refl, (refl, tt)))))
-fitting offering = (refl, (refl, (refl, (refl, (refl, tt)))))
-fitting status = (refl, (refl, (refl, tt)))
-fitting panel = (refl, (refl, (refl, tt)))
-fitting reset = (refl, (refl, tt))
-fitting suspending = (refl, (refl, tt))
+fitting setups = (refl, (refl, (refl, (refl, tt))))
+fitting outs = (refl, (refl, (refl, (refl, (refl, (refl, (refl, (refl, (refl, (refl, (refl, (refl, (refl, (refl, (refl, tt)))))))))))))))
+fitting polls = (refl, (refl, (refl, (refl, (refl, (refl, tt))))))
+fitting interrupts = (refl, (refl, (refl, (refl, (refl, (refl, tt))))))
+fitting takes = (refl, (refl, (refl, (refl, (refl, tt)))))
+fitting offers = (refl, (refl, (refl, (refl, (refl, tt)))))
+fitting statuses = (refl, (refl, (refl, tt)))
+fitting panels = (refl, (refl, (refl, tt)))
+fitting resets = (refl, (refl, tt))
+fitting suspends = (refl, (refl, tt))
 
 not-seven : isSound (made (record { packet = 7 }) OFF) ≡ false
 unfolding computed

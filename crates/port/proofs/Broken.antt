@@ -11,15 +11,18 @@ use Rattle.rules.specs.Choice.{_=ᵇ_, _and_}
 use Rattle.rules.specs.Answers.{DONE, UNSOUND, WRONG-SIZE, NO-ROW, SUCCESS, Leaves, as-ruled, unchanged, out-halted, leaves}
 use Rattle.rules.proofs.Choice.{pick-all, decide-all, eq-neb, and-left, and-right, both-right}
 use Rattle.wire.specs.Bytes.{byte}
-use Rattle.wire.specs.Header.{OFF, ON}
+use Rattle.rules.specs.Flags.{OFF, ON}
 use Rattle.wire.specs.Setup.{readSetup}
 use Rattle.wire.specs.declared.types.Endpoint.the-variants.{Out, In, Interrupt}
 use Rattle.wire.specs.declared.types.Row.{Row}
-use Rattle.wire.specs.declared.types.Row.the-variants.{InitiateAbortBulkOut, CheckAbortBulkOutStatus, InitiateAbortBulkIn, CheckAbortBulkInStatus, InitiateClear, CheckClearStatus, GetCapabilities, IndicatorPulse, ReadStatusByte, RenControl, GoToLocal, LocalLockout, ClearFeature, SetFeature, GetStatus}
+use Rattle.wire.specs.declared.types.Row.the-variants.{InitiateAbortBulkOut, CheckAbortBulkOutStatus, InitiateAbortBulkIn, CheckAbortBulkInStatus}
+use Rattle.wire.specs.declared.types.Row.the-variants.{InitiateClear, CheckClearStatus, GetCapabilities, IndicatorPulse, ReadStatusByte}
+use Rattle.wire.specs.declared.types.Row.the-variants.{RenControl, GoToLocal, LocalLockout, ClearFeature, SetFeature, GetStatus}
 use Rattle.wire.specs.declared.types.Setup.{Setup}
 use Rattle.wire.specs.declared.types.Setup.the-variants.{Configure, Asks, NoRow}
 use Rattle.port.specs.Parts.{on, isOpenOut, unfinished, isClear, outOf, isConfigured, closedOut, broken, fresh, emptyOut}
-use Rattle.port.specs.Rows.{Reaction, answering, reacts, abortRules, outTag, initiateAbortOut, initiateClear, clearing, clearFeatureOut, answerRow, effected}
+use Rattle.port.specs.Rows.{Reaction, answering, reacts, abortRules, outTag, initiateAbortOut}
+use Rattle.port.specs.Rows.{initiateClear, clearing, clearFeatureOut, answerRow, effected}
 use Rattle.port.specs.Device.{Device, Result, isSound, made}
 use Rattle.port.specs.Calls.{refused, setupRules, asked, setupOutcome, answered, setup, busReset}
 use Rattle.port.specs.Step.{setup-packet, out-packet, take-into, bus-reset, quiet, soundly, step}
@@ -92,7 +95,8 @@ refusal u x n e b = absurd (false≢true (sym (and-left _ _ e) ∙ b))
 setup-drops : (u : Device) (x : Setup) → SetupDrops x (answered u (asked (u .state) x))
 unfolding answered asked made fresh
 setup-drops u (Configure value) = λ _. empty-dropped OFF 0
-setup-drops u (Asks row) = pick-all (λ (x : SetupOutcome). SetupDrops (Asks row) (answered u x)) (isConfigured (u .state)) _ _ (λ _ b. row-drops (u .state) row (both-right _ _ b)) (λ _. refusal u (Asks row) NO-ROW refl)
+setup-drops u (Asks row) = pick-all (λ (x : SetupOutcome). SetupDrops (Asks row) (answered u x)) (isConfigured (u .state)) _ _ (λ _ b. row-drops (u .state) row (both-right _ _ b))
+    (λ _. refusal u (Asks row) NO-ROW refl)
 setup-drops u NoRow = refusal u NoRow NO-ROW refl
 
 -- a number that halts leaves a halted unit
@@ -110,7 +114,8 @@ unfolding isBreak step soundly setup setupOutcome answered busReset made fresh
 break-drops u (setup-packet p) h = pick-all (SetupDrops (readSetup (p .packet))) (isSound u) _ _ (λ _. served) (λ _. refusal u (readSetup (p .packet)) UNSOUND refl)
   where
     served : SetupDrops (readSetup (p .packet)) (soundly u (setup-packet p))
-    served = decide-all (λ (x : SetupOutcome). SetupDrops (readSetup (p .packet)) (answered u x)) Denies (setupRules (length (p .packet)) (p .room)) _ (refusal u (readSetup (p .packet)) WRONG-SIZE refl, tt) (λ _. setup-drops u (readSetup (p .packet)))
+    served = decide-all (λ (x : SetupOutcome). SetupDrops (readSetup (p .packet)) (answered u x)) Denies (setupRules (length (p .packet)) (p .room)) _
+        (refusal u (readSetup (p .packet)) WRONG-SIZE refl, tt) (λ _. setup-drops u (readSetup (p .packet)))
 break-drops u (out-packet s) h = λ e. halt-drops u (step u (out-packet s)) (leaves (step u (out-packet s) .answer .verdict .number)) (leaves-table u (out-packet s) (halt-number _ e)) e
 break-drops u (take-into room) h = λ e. absurd (false≢true e)
 break-drops u bus-reset h = pick-all (λ (r : Result). (r .answer .verdict .number =ᵇ DONE) ≡ true → Dropped (outOf (r .unit .state))) (isSound u) _ _ (λ _ _. reset) (λ _ e. absurd (false≢true e))

@@ -12,29 +12,39 @@ use lib.Dec.{T, eqb}
 use lib.Seq.{paste, paste-zero, length-paste}
 use borrow.Author.Tests.{ne-eqb, eqb-true, eqb-false, ltb-false}
 use Rattle.rules.specs.Choice.{_=ᵇ_, pick, decide}
-use Rattle.rules.specs.Answers.{DONE, UNSOUND, UNCONFIGURED, WRONG-SIZE, HALTED, WAIT, NOT-IN-FOURS, SHORT-HEADER, BAD-TAG, UNKNOWN-MSGID, RESERVED, WRONG-LENGTH, TOO-LONG, OUT-OF-TURN, MISALIGNED, NO-ROW, NOT-NOW, unchanged, out-halted, leaves, only}
+use Rattle.rules.specs.Answers.{DONE, UNSOUND, UNCONFIGURED, WRONG-SIZE, HALTED, WAIT, NOT-IN-FOURS, SHORT-HEADER, BAD-TAG, UNKNOWN-MSGID, RESERVED}
+use Rattle.rules.specs.Answers.{WRONG-LENGTH, TOO-LONG, OUT-OF-TURN, MISALIGNED, NO-ROW, NOT-NOW, unchanged, out-halted, leaves, only}
 use Rattle.rules.proofs.Choice.{pick-all, decide-all, at-true, at-false, no-true, not-no, none-left, none-right, eq-neb, or-left, not-both, decide-lines}
 use Rattle.wire.specs.Bytes.{byte}
-use Rattle.wire.specs.Header.{HEADER, OFF}
+use Rattle.rules.specs.Flags.{OFF}
+use Rattle.wire.specs.Header.{HEADER}
 use Rattle.wire.specs.Setup.{bRequest, matches, toDevice, readSetup}
 use Rattle.wire.specs.declared.types.Header.{Header}
 use Rattle.wire.specs.declared.types.Header.the-variants.{Message, Request, Trigger}
 use Rattle.wire.specs.declared.types.Row.{Row}
-use Rattle.wire.specs.declared.types.Row.the-variants.{InitiateAbortBulkOut, CheckAbortBulkOutStatus, InitiateAbortBulkIn, CheckAbortBulkInStatus, InitiateClear, CheckClearStatus, GetCapabilities, IndicatorPulse, ReadStatusByte, RenControl, GoToLocal, LocalLockout, ClearFeature, SetFeature, GetStatus}
+use Rattle.wire.specs.declared.types.Row.the-variants.{InitiateAbortBulkOut, CheckAbortBulkOutStatus, InitiateAbortBulkIn, CheckAbortBulkInStatus}
+use Rattle.wire.specs.declared.types.Row.the-variants.{InitiateClear, CheckClearStatus, GetCapabilities, IndicatorPulse, ReadStatusByte}
+use Rattle.wire.specs.declared.types.Row.the-variants.{RenControl, GoToLocal, LocalLockout, ClearFeature, SetFeature, GetStatus}
 use Rattle.wire.specs.declared.types.Setup.{Setup}
 use Rattle.wire.specs.declared.types.Setup.the-variants.{Configure, Asks, NoRow}
 use Rattle.wire.proofs.SetupLaws.{InRange, setup-ranged}
-use Rattle.port.specs.Parts.{STORE, FULL-SPEED, isSize, CLOSED, OWED, isOwed, isOpenOut, isOpenIn, hasReply, isClear, portOf, outOf, inOf, interruptOf, packetSize, isConfigured, haltedOut}
-use Rattle.port.specs.Answer.{Said, number, refuse}
+use Rattle.port.specs.Parts.{STORE, FULL-SPEED, isSize, CLOSED, OWED, isOwed, isOpenOut, isOpenIn, hasReply}
+use Rattle.port.specs.Parts.{isClear, portOf, outOf, inOf, interruptOf, packetSize, isConfigured, haltedOut}
+use Rattle.port.specs.Answer.{Said, numbered, refuse}
 use Rattle.port.specs.Out.{plain, planned, accepted, outPlan, dataLength}
 use Rattle.port.specs.In.{nothingToSend, inRules, poll}
 use Rattle.port.specs.Interrupt.{isWaiting, interruptRules, interruptPoll}
-use Rattle.port.specs.Rows.{Reaction, answering, abortRules, outTag, inTag, initiateAbortOut, initiateAbortIn, checkAbortOut, checkAbortIn, initiateClear, checkClear, readStatus, answerRow}
+use Rattle.port.specs.Rows.{Reaction, answering, abortRules, outTag, inTag, initiateAbortOut, initiateAbortIn}
+use Rattle.port.specs.Rows.{checkAbortOut, checkAbortIn, initiateClear, checkClear, readStatus, answerRow}
 use Rattle.port.specs.Device.{Device, Result, isSound, withState, unsentOf, zeroed, made, powerOn}
-use Rattle.port.specs.Calls.{refused, said, carriedOut, bulkOut, bulkIn, interruptIn, setupRules, asked, setupOutcome, answered, setup, takeRules, taking, take-message, offerRules, offerPlan, withReply, offer, thermostatRules, statusSet, setStatus, returned, panel, busReset, suspend}
-use Rattle.port.specs.Step.{in-poll, interrupt-poll, offer-reply, set-status, front-panel, bus-suspend, SetupPacket, Call, setup-packet, out-packet, take-into, bus-reset, quiet, quietly, soundly, step}
-use Rattle.port.specs.Lists.{bulk, faults, Kind, setup as setting-up, out, poll as polling, interrupting, taking as takes, offering, status, panel as panels, reset, suspending, kindOf, own, ownList}
-use Rattle.port.specs.Laws.{OneOf, Stored, PowerOnSound, PowerOnAnswers, KeepsSound, KeepsStored, UnsoundRefused, OnlyUnsound, OwnNumbers, LeftAs, LeavesTable, Zeroed, Zeroes}
+use Rattle.port.specs.Calls.{refused, said, withMessage, bulkOut, bulkIn, interruptIn, setupRules, asked, setupOutcome}
+use Rattle.port.specs.Calls.{answered, setup, takeRules, taking, take-message, offerRules, offerPlan, withReply, offer}
+use Rattle.port.specs.Calls.{thermostatRules, statusSet, setStatus, returned, panel, busReset, suspend}
+use Rattle.port.specs.Step.{in-poll, interrupt-poll, offer-reply, set-status, front-panel, bus-suspend, SetupPacket}
+use Rattle.port.specs.Step.{Call, setup-packet, out-packet, take-into, bus-reset, quiet, quietly, soundly, step}
+use Rattle.port.specs.Lists.{bulk, faults, Kind, setups, outs, polls, interrupts, takes, offers, statuses, panels, resets, suspends, kindOf, own, ownList}
+use Rattle.port.specs.Laws.{OneOf, Stored, PowerOnSound, PowerOnAnswers, KeepsSound, KeepsStored, UnsoundRefused}
+use Rattle.port.specs.Laws.{OnlyUnsound, OwnNumbers, LeftAs, LeavesTable, Zeroed, Zeroes}
 use Rattle.port.specs.declared.types.Setting.{Setting}
 use Rattle.port.specs.declared.types.Split.{Split}
 use Rattle.port.specs.declared.types.Split.the-variants.{None, AbortOut, AbortIn, Clear}
@@ -70,15 +80,16 @@ power-on-answers setting =
 -- ** an unsound unit
 
 -- a plan that stores nothing is a refusal, of a packet and of a reply
-pub unplanned : (u : Device) (s : List ℕ) (n : ℕ) → carriedOut u s (plain (u .state) (only n)) ≡ refused u n
-unplanned u s n = ap (λ (m : List ℕ). record { unit = record { message = m; reply = u .reply; state = u .state }; answer = number n }) (sym (paste-zero (u .message) (outOf (u .state) .message .held) s))
+pub unplanned : (u : Device) (s : List ℕ) (n : ℕ) → withMessage u s (plain (u .state) (only n)) ≡ refused u n
+unplanned u s n = ap (λ (m : List ℕ). record { unit = record { message = m; reply = u .reply; state = u .state }; answer = numbered n })
+    (sym (paste-zero (u .message) (outOf (u .state) .message .held) s))
 
-pub kept : (u : Device) (s : List ℕ) (n : ℕ) → carriedOut u s (planned (u .state) (Keep n)) ≡ refused u n
+pub kept : (u : Device) (s : List ℕ) (n : ℕ) → withMessage u s (planned (u .state) (Keep n)) ≡ refused u n
 unfolding planned
 kept u s n = unplanned u s n
 
 pub unstored : (u : Device) (bytes : List ℕ) (n : ℕ) → withReply u bytes (plain (u .state) (only n)) ≡ refused u n
-unstored u bytes n = ap (λ (m : List ℕ). record { unit = record { message = u .message; reply = m; state = u .state }; answer = number n }) (sym (paste-zero (u .reply) 0 bytes))
+unstored u bytes n = ap (λ (m : List ℕ). record { unit = record { message = u .message; reply = m; state = u .state }; answer = numbered n }) (sym (paste-zero (u .reply) 0 bytes))
 
 pub unsound-refused : UnsoundRefused step
 unfolding step
@@ -124,16 +135,16 @@ power-on-stored setting = pick-all (λ (r : Result). Stored (r .unit)) (isSize (
 -- 1 stands in every list
 unsound-own : (k : Kind) → OneOf UNSOUND (own k)
 unfolding own
-unsound-own setting-up = inl refl
-unsound-own out = inl refl
-unsound-own polling = inl refl
-unsound-own interrupting = inl refl
+unsound-own setups = inl refl
+unsound-own outs = inl refl
+unsound-own polls = inl refl
+unsound-own interrupts = inl refl
 unsound-own takes = inl refl
-unsound-own offering = inl refl
-unsound-own status = inl refl
+unsound-own offers = inl refl
+unsound-own statuses = inl refl
 unsound-own panels = inl refl
-unsound-own reset = inl refl
-unsound-own suspending = inl refl
+unsound-own resets = inl refl
+unsound-own suspends = inl refl
 
 -- a line of a list of rules that keeps
 keeps : (u : Device) (c : Call) (n : ℕ) → OneOf n (ownList c) → leaves n ≡ unchanged → (n ≡ UNSOUND → ⊥) → Way u c (refused u n)
@@ -146,7 +157,7 @@ Zero r = r .answer .verdict .number ≡ DONE
 pub row-done : (st : State) (row : Row) → answerRow st row .answer .verdict .number ≡ DONE
 unfolding answerRow initiateAbortOut initiateAbortIn checkAbortOut checkAbortIn initiateClear checkClear readStatus
 row-done st (InitiateAbortBulkOut tag) =
-    decide-all Zero (λ status. answering (status ∷ outTag (outOf st) ∷ [])) (abortRules (st .split) (isOpenOut (outOf st)) (outTag (outOf st)) tag) _ (refl, (refl, (refl, tt))) (λ _. refl)
+    decide-all Zero (λ statuses. answering (statuses ∷ outTag (outOf st) ∷ [])) (abortRules (st .split) (isOpenOut (outOf st)) (outTag (outOf st)) tag) _ (refl, (refl, (refl, tt))) (λ _. refl)
 row-done st CheckAbortBulkOutStatus = by (st .split)
   where
     by : (s : Split) → checkAbortOut s .answer .verdict .number ≡ DONE
@@ -155,7 +166,7 @@ row-done st CheckAbortBulkOutStatus = by (st .split)
     by (AbortIn count) = refl
     by Clear = refl
 row-done st (InitiateAbortBulkIn tag) =
-    decide-all Zero (λ status. answering (status ∷ inTag (inOf st) ∷ [])) (abortRules (st .split) (isOpenIn (inOf st)) (inTag (inOf st)) tag) _ (refl, (refl, (refl, tt))) (λ _. refl)
+    decide-all Zero (λ statuses. answering (statuses ∷ inTag (inOf st) ∷ [])) (abortRules (st .split) (isOpenIn (inOf st)) (inTag (inOf st)) tag) _ (refl, (refl, (refl, tt))) (λ _. refl)
 row-done st CheckAbortBulkInStatus = by (st .split)
   where
     by : (s : Split) → checkAbortIn (inOf st) s .answer .verdict .number ≡ DONE
@@ -176,7 +187,7 @@ row-done st (SetFeature endpoint) = refl
 row-done st (GetStatus endpoint) = refl
 
 module _ (u : Device) (h : Sound (u .state)) where
-  setup-way : (s : List ℕ) (room : ℕ) (c : Call) → kindOf c ≡ setting-up → Way u c (setup u s room)
+  setup-way : (s : List ℕ) (room : ℕ) (c : Call) → kindOf c ≡ setups → Way u c (setup u s room)
   unfolding setup setupOutcome answered asked own leaves made
   setup-way s room c k =
       decide-lines (λ (x : SetupOutcome). Way u c (answered u x)) Denies (setupRules (length s) room) _
@@ -199,23 +210,28 @@ module _ (u : Device) (h : Sound (u .state)) where
       → Stored (record { message = paste (u .message) (outOf (u .state) .message .held) (drop from s) count; reply = u .reply; state = st })
   put-stored s from count st room fits h = record {
     message = ⊎-elim
-        (λ e. let z = eqb-true count 0 e in ap length (sym (subst (λ (n : ℕ). u .message ≡ paste (u .message) (outOf (u .state) .message .held) (drop from s) n) (sym z) (paste-zero (u .message) (outOf (u .state) .message .held) (drop from s)))) ∙ h .message)
-        (λ e. let r = room (eqb-false count 0 e) in length-paste (u .message) (outOf (u .state) .message .held) (drop from s) count (let l = h .message in omega arith) (let l = length-drop from s in omega arith) ∙ h .message)
+        (λ e. let z = eqb-true count 0 e in
+        ap length
+        (sym (subst (λ (n : ℕ). u .message ≡ paste (u .message) (outOf (u .state) .message .held) (drop from s) n) (sym z)
+        (paste-zero (u .message) (outOf (u .state) .message .held) (drop from s)))) ∙ h .message)
+        (λ e. let r = room (eqb-false count 0 e) in length-paste (u .message) (outOf (u .state) .message .held) (drop from s) count (let l = h .message in omega arith)
+        (let l = length-drop from s in omega arith) ∙ h .message)
         (cases (count =ᵇ 0));
     reply = h .reply;
   }
 
   -- a plan that halts does nothing else
-  pub halted : (s : List ℕ) (n : ℕ) → carriedOut u s (planned (u .state) (Halt n)) ≡ refused (withState u (haltedOut (u .state))) n
+  pub halted : (s : List ℕ) (n : ℕ) → withMessage u s (planned (u .state) (Halt n)) ≡ refused (withState u (haltedOut (u .state))) n
   unfolding planned
-  halted s n = ap (λ (m : List ℕ). record { unit = record { message = m; reply = u .reply; state = haltedOut (u .state) }; answer = number n }) (sym (paste-zero (u .message) (outOf (u .state) .message .held) s))
+  halted s n = ap (λ (m : List ℕ). record { unit = record { message = m; reply = u .reply; state = haltedOut (u .state) }; answer = numbered n })
+      (sym (paste-zero (u .message) (outOf (u .state) .message .held) s))
 
   module _ (s : List ℕ) where
     abbrev packet : Call
     packet = out-packet s
 
     Q : Outcome → Type 0
-    Q x = Way u packet (carriedOut u s (planned (u .state) x))
+    Q x = Way u packet (withMessage u s (planned (u .state) x))
 
     keep-way : (n : ℕ) → Way u packet (refused u n) → Q (Keep n)
     unfolding Q
@@ -232,7 +248,8 @@ module _ (u : Device) (h : Sound (u .state)) where
     data-way : Continues (u .state) s → Q (Data (min (outOf (u .state) .transfer .left) (length s)))
     unfolding Q planned
     data-way c =
-        does _ refl (data-sound (u .state) s h c) (put-stored s 0 (min (outOf (u .state) .transfer .left) (length s)) _ (λ _. ⊎-elim (λ w. let r = w .1 .room in omega arith) (λ w. absurd (c .is-open (w .0))) (h .out)) (omega arith))
+        does _ refl (data-sound (u .state) s h c) (put-stored s 0 (min (outOf (u .state) .transfer .left) (length s)) _
+        (λ _. ⊎-elim (λ w. let r = w .1 .room in omega arith) (λ w. absurd (c .is-open (w .0))) (h .out)) (omega arith))
 
     head-way : (x : Header) → Heads (u .state) s x → Q (Accept x (min (dataLength x) (length s - HEADER)))
     unfolding Q planned accepted

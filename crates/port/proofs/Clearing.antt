@@ -28,7 +28,8 @@ use Rattle.port.specs.Rows.{Reaction, reacts, reacted, initiateClear, ch
 use Rattle.port.specs.Device.{Device, Result, isSound, withState, unsentOf}
 use Rattle.port.specs.Calls.{said, setupRules, asked, setupOutcome, answered, setup, bulkIn}
 use Rattle.port.specs.Step.{in-poll, quiet, setup-of, quietly, soundly, step}
-use Rattle.port.specs.Laws.{INITIATE-CLEAR, CHECK-CLEAR-STATUS, CLEAR-FEATURE-IN, success, Reached, Attends, Ready, ClearReached, ClearReachedPolled, ReachedByFeature, ClearReachedHalted, Survive}
+use Rattle.port.specs.Laws.{INITIATE-CLEAR, CHECK-CLEAR-STATUS, CLEAR-FEATURE-IN, success, Reached, Attends, Ready}
+use Rattle.port.specs.Laws.{ClearReached, ClearReachedPolled, ReachedByFeature, ClearReachedHalted, Survive}
 use Rattle.port.specs.declared.types.BulkIn.{BulkIn}
 use Rattle.port.specs.declared.types.State.{State}
 use Rattle.port.proofs.KeepsOut.{cases}
@@ -55,7 +56,8 @@ shut-unowed b = refl
 abbrev initiated-state : State → State
 initiated-state st = effected st (initiateClear (st .split) .effect)
 
-initiate-keeps : (st : State) → (isConfigured (initiated-state st) ≡ isConfigured st) × (inOf (initiated-state st) .halted ≡ inOf st .halted) × (packetSize (initiated-state st) ≡ packetSize st) × (isClear (initiated-state st .split) ≡ true)
+initiate-keeps : (st : State) → (isConfigured (initiated-state st) ≡ isConfigured st) × (inOf (initiated-state st) .halted ≡ inOf st .halted)
+    × (packetSize (initiated-state st) ≡ packetSize st) × (isClear (initiated-state st .split) ≡ true)
 unfolding initiateClear effected clearing
 initiate-keeps st =
     pick-all

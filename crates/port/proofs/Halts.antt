@@ -15,7 +15,7 @@ use Rattle.rules.specs.When.{Not}
 use Rattle.rules.proofs.Choice.{pick-all, decide-all, at-true, at-false, ne-neb, neb-ne, neb-eq, Each}
 use Rattle.rules.proofs.When.{Tells, differs, negated, sure, By, line}
 use Rattle.wire.specs.Bytes.{bytes4}
-use Rattle.wire.specs.Header.{OFF, ON}
+use Rattle.rules.specs.Flags.{OFF, ON}
 use Rattle.wire.specs.Setup.{readSetup}
 use Rattle.wire.specs.When.{at, rows}
 use Rattle.wire.specs.declared.types.Endpoint.the-variants.{Out, In, Interrupt}
@@ -23,8 +23,10 @@ use Rattle.wire.specs.declared.types.Row.{Row}
 use Rattle.wire.specs.declared.types.Row.the-variants.{ClearFeature, SetFeature, GetStatus}
 use Rattle.wire.specs.declared.types.Setup.{Setup}
 use Rattle.wire.proofs.When.{Right, matched, unmatched, setup-read}
-use Rattle.port.specs.Parts.{isOpenIn, isOwed, isNone, keepsHalt, isClear, outOf, inOf, interruptOf, isConfigured, noMessage, withInterrupt, withSplit, withInterruptHalted, fresh, broken, shut}
-use Rattle.port.specs.Rows.{Reaction, answering, reacts, abortRules, inTag, initiateAbortOut, initiateAbortIn, wrongSplit, checkAbortOut, checkAbortIn, initiateClear, checkClear}
+use Rattle.port.specs.Parts.{isOpenIn, isOwed, isNone, keepsHalt, isClear, outOf, inOf, interruptOf, isConfigured}
+use Rattle.port.specs.Parts.{noMessage, withInterrupt, withSplit, withInterruptHalted, fresh, broken, shut}
+use Rattle.port.specs.Rows.{Reaction, answering, reacts, abortRules, inTag, initiateAbortOut, initiateAbortIn}
+use Rattle.port.specs.Rows.{wrongSplit, checkAbortOut, checkAbortIn, initiateClear, checkClear}
 use Rattle.port.specs.Rows.{answerRow, clearing, clearFeatureOut, clearFeatureIn, effected}
 use Rattle.port.specs.Device.{Device, Result, isSound, withState, made}
 use Rattle.port.specs.Calls.{setupRules, asked, setupOutcome, answered, setup}
@@ -33,7 +35,8 @@ use Rattle.port.specs.When.{OutHalted, InHalted, InterruptHalted, InOpen
 use Rattle.port.specs.Lists.{bulk, faults, own}
 use Rattle.port.specs.Laws.{OneOf, LeftAs}
 use Rattle.port.specs.Halts.{Dropped, SplitBecomes, abortStatus, Counts, On, AbortsOut, ChecksOut, AbortsIn, ChecksIn, Clears, ChecksClear}
-use Rattle.port.specs.Halts.{FreesOut, HaltsOut, FreesIn, HaltsIn, InterruptMoves, FreesInterrupt, HaltsInterrupt, TellsHalt, Faults, Cleared, SplitsAndHalts}
+use Rattle.port.specs.Halts.{FreesOut, HaltsOut, FreesIn, HaltsIn, InterruptMoves, FreesInterrupt}
+use Rattle.port.specs.Halts.{HaltsInterrupt, TellsHalt, Faults, Cleared, SplitsAndHalts}
 use Rattle.port.specs.declared.types.OutMessage.{OutMessage}
 use Rattle.port.specs.declared.types.BulkOut.{BulkOut}
 use Rattle.port.specs.declared.types.BulkIn.{BulkIn}

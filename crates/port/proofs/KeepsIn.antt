@@ -11,16 +11,21 @@ use borrow.Author.Tests.{eq-eqb, ne-eqb, eqb-false}
 use Rattle.rules.specs.Choice.{_=ᵇ_, _<ᵇ_, no}
 use Rattle.rules.specs.Answers.{SUCCESS}
 use Rattle.rules.proofs.Choice.{pick-all, decide-all, at-true, at-false, neb-ne, not-no, none-right}
-use Rattle.wire.specs.Header.{OFF, ON}
+use Rattle.rules.specs.Flags.{OFF, ON}
 use Rattle.wire.specs.declared.types.Endpoint.the-variants.{Out, In, Interrupt}
 use Rattle.wire.specs.declared.types.Row.{Row}
 use Rattle.wire.proofs.SetupLaws.{Tagged}
-use Rattle.wire.specs.declared.types.Row.the-variants.{InitiateAbortBulkOut, CheckAbortBulkOutStatus, InitiateAbortBulkIn, CheckAbortBulkInStatus, InitiateClear, CheckClearStatus, GetCapabilities, IndicatorPulse, ReadStatusByte, RenControl, GoToLocal, LocalLockout, ClearFeature, SetFeature, GetStatus}
-use Rattle.port.specs.Parts.{STORE, CLOSED, ASKED, SENDING, OWED, on, isOpenOut, isOpenIn, isOwed, hasReply, isNone, keepsHalt, isClear, portOf, outOf, inOf, interruptOf, closedIn, owedIn, withPort, withOut, withIn, withInterrupt, withSplit, withRemote, withRen, withInHalted, withInterruptHalted, emptyOut, emptyIn, broken, shut}
+use Rattle.wire.specs.declared.types.Row.the-variants.{InitiateAbortBulkOut, CheckAbortBulkOutStatus, InitiateAbortBulkIn, CheckAbortBulkInStatus}
+use Rattle.wire.specs.declared.types.Row.the-variants.{InitiateClear, CheckClearStatus, GetCapabilities, IndicatorPulse, ReadStatusByte}
+use Rattle.wire.specs.declared.types.Row.the-variants.{RenControl, GoToLocal, LocalLockout, ClearFeature, SetFeature, GetStatus}
+use Rattle.port.specs.Parts.{STORE, CLOSED, ASKED, SENDING, OWED, on, isOpenOut, isOpenIn, isOwed, hasReply, isNone, keepsHalt, isClear}
+use Rattle.port.specs.Parts.{portOf, outOf, inOf, interruptOf, closedIn, owedIn, withPort, withOut, withIn, withInterrupt, withSplit}
+use Rattle.port.specs.Parts.{withRemote, withRen, withInHalted, withInterruptHalted, emptyOut, emptyIn, broken, shut}
 use Rattle.port.specs.Remote.{localNow}
 use Rattle.port.specs.Interrupt.{isWaiting}
 use Rattle.port.specs.In.{Packet, fixed, header, started, toGo, gone, send, nextPacket}
-use Rattle.port.specs.Rows.{Reaction, answering, reacts, abortRules, outTag, inTag, initiateAbortOut, initiateAbortIn, checkAbortOut, checkAbortIn, initiateClear, checkClear, readStatus, answerRow, owing, clearing, clearFeatureOut, clearFeatureIn, effected}
+use Rattle.port.specs.Rows.{Reaction, answering, reacts, abortRules, outTag, inTag, initiateAbortOut, initiateAbortIn, checkAbortOut, checkAbortIn}
+use Rattle.port.specs.Rows.{initiateClear, checkClear, readStatus, answerRow, owing, clearing, clearFeatureOut, clearFeatureIn, effected}
 use Rattle.port.specs.Calls.{released, offered}
 use Rattle.port.specs.declared.types.Port.{Port}
 use Rattle.port.specs.declared.types.BulkOut.{BulkOut}
@@ -32,7 +37,8 @@ use Rattle.port.specs.declared.types.Split.{Split}
 use Rattle.port.specs.declared.types.Split.the-variants.{None, AbortOut, AbortIn, Clear}
 use Rattle.port.specs.declared.types.Effect.the-variants.{AbortsOut, AbortsIn}
 use Rattle.port.specs.declared.types.State.{State}
-use Rattle.port.proofs.Soundness.{PortSound, OutSound, Idle, SendingIn, Phase, is-closed, is-asked, is-sending, is-owed, phase-kept, InSound, InterruptSound, ClearSound, SplitSound, Sound}
+use Rattle.port.proofs.Soundness.{PortSound, OutSound, Idle, SendingIn, Phase, is-closed, is-asked, is-sending}
+use Rattle.port.proofs.Soundness.{is-owed, phase-kept, InSound, InterruptSound, ClearSound, SplitSound, Sound}
 use Rattle.port.proofs.KeepsInterrupt.{halted-interrupt, queued-interrupt}
 use Rattle.port.proofs.KeepsOut.{halt-flag, broken-sound, halted-sound}
 
@@ -44,7 +50,8 @@ unfolding shut
 shut-sound b h = record { halted = h .halted; reply = h .reply; phase = is-closed refl refl (record { asked = refl; enabled = refl; term = refl; left = refl; sent = refl }) }
 
 -- a Bulk-IN side that is closed, or that owes no packet more than before: no split minds it, but for what a clear asks of it
-pub in-split : (s : Split) (o : BulkOut) (b b′ : BulkIn) → SplitSound s o b → (b′ .transfer .phase ≡ OWED → b .transfer .phase ≡ OWED) → (isClear s ≡ true → (b′ .reply .unsent ≡ 0) × (b′ .recent ≡ 0) × ((b′ .transfer .phase ≡ CLOSED) ⊎ (b′ .transfer .phase ≡ OWED))) → SplitSound s o b′
+pub in-split : (s : Split) (o : BulkOut) (b b′ : BulkIn) → SplitSound s o b → (b′ .transfer .phase ≡ OWED → b .transfer .phase ≡ OWED)
+    → (isClear s ≡ true → (b′ .reply .unsent ≡ 0) × (b′ .recent ≡ 0) × ((b′ .transfer .phase ≡ CLOSED) ⊎ (b′ .transfer .phase ≡ OWED))) → SplitSound s o b′
 in-split None o b b′ k p c = λ e. k (p e)
 in-split (AbortOut count) o b b′ k p c = (k .0, k .1, λ e. k .2 (p e))
 in-split (AbortIn count) o b b′ k p c = k
@@ -61,7 +68,8 @@ module _ (st : State) (h : Sound st) where
   pub clears : isClear (st .split) ≡ true → ClearSound (outOf st) (inOf st)
   clears = clear-in (st .split) _ _ (h .split)
 
-  with-in : (b : BulkIn) → InSound b → (b .transfer .phase ≡ OWED → inOf st .transfer .phase ≡ OWED) → (isClear (st .split) ≡ true → (b .reply .unsent ≡ 0) × (b .recent ≡ 0) × ((b .transfer .phase ≡ CLOSED) ⊎ (b .transfer .phase ≡ OWED))) → Sound (withIn st b)
+  with-in : (b : BulkIn) → InSound b → (b .transfer .phase ≡ OWED → inOf st .transfer .phase ≡ OWED)
+      → (isClear (st .split) ≡ true → (b .reply .unsent ≡ 0) × (b .recent ≡ 0) × ((b .transfer .phase ≡ CLOSED) ⊎ (b .transfer .phase ≡ OWED))) → Sound (withIn st b)
   with-in b i p c = record { port = h .port; out = h .out; inward = i; interrupt = h .interrupt; split = in-split (st .split) _ _ b (h .split) p c }
 
   pub shut-in-sound : Sound (withIn st (shut (inOf st)))
@@ -89,7 +97,8 @@ module _ (st : State) (h : Sound st) where
           subst Going (sym (at-true (inOf st .transfer .phase =ᵇ ASKED) _ _ (eq-eqb _ _ e)))
           (record { phase = refl; sending = record { tag = a .tag; stored = omega arith; count = omega arith; asked = refl; enabled = refl; term = refl }; halted = h .inward .halted; reply = r })
       by (is-sending e a) =
-          subst Going (sym (at-false (inOf st .transfer .phase =ᵇ ASKED) _ _ (ne-eqb (inOf st .transfer .phase) ASKED (λ z. omega arith)))) (record { phase = e; sending = a; halted = h .inward .halted; reply = h .inward .reply })
+          subst Going (sym (at-false (inOf st .transfer .phase =ᵇ ASKED) _ _ (ne-eqb (inOf st .transfer .phase) ASKED (λ z. omega arith))))
+          (record { phase = e; sending = a; halted = h .inward .halted; reply = h .inward .reply })
 
   gone-sound : (b : BulkIn) (k : ℕ) → Going b → k ≤ b .transfer .left → InSound (gone b k)
   unfolding gone
@@ -97,7 +106,12 @@ module _ (st : State) (h : Sound st) where
       let r = g .reply in
       let s = g .sending .stored in
       let c = g .sending .count in
-      record { halted = g .halted; reply = omega arith; phase = is-sending refl (record { tag = g .sending .tag; stored = omega arith; count = omega arith; asked = refl; enabled = refl; term = refl }) }
+      record {
+        halted = g .halted;
+        reply = omega arith;
+        phase = is-sending refl
+            (record { tag = g .sending .tag; stored = omega arith; count = omega arith; asked = refl; enabled = refl; term = refl });
+      }
 
   -- no packet takes more data than is left
   packet-fits : (p : ℕ) (unsent : List ℕ) → length (take p (toGo (inOf st) unsent)) - length (header (inOf st) unsent) ≤ started (inOf st) unsent .transfer .left
@@ -221,7 +235,8 @@ module _ (st : State) (h : Sound st) where
       (λ e. made (owed-sound (inOf st) 0 (h .inward) (neb-ne _ _ e)) (inr refl))
       (λ _. made (closed-sound (inOf st .halted) 0 (h .inward .halted)) (inl refl))
     where
-      made : {t : InTransfer} → InSound (emptyIn t (inOf st .halted) 0) → (t .phase ≡ CLOSED) ⊎ (t .phase ≡ OWED) → Sound (withSplit (withIn (withOut st (emptyOut ON 0)) (emptyIn t (inOf st .halted) 0)) Clear)
+      made : {t : InTransfer} → InSound (emptyIn t (inOf st .halted) 0) → (t .phase ≡ CLOSED) ⊎ (t .phase ≡ OWED)
+          → Sound (withSplit (withIn (withOut st (emptyOut ON 0)) (emptyIn t (inOf st .halted) 0)) Clear)
       made i p = record {
         port = h .port;
         out = inr (refl, record { halted = omega arith; ready = omega arith; end = refl; got = refl; held = omega arith; whole = λ e. absurd (omega arith); dropped = λ _ _. refl });
@@ -346,4 +361,10 @@ module _ (st : State) (h : Sound st) where
   pub offered-sound : (n : ℕ) → n ≤ STORE → hasReply (inOf st) ≡ false → isClear (st .split) ≡ false → Sound (withIn st (offered (inOf st) n))
   unfolding offered
   offered-sound n e r c =
-      with-in st h _ (record { halted = h .inward .halted; reply = omega arith; phase = phase-kept (inOf st .reply .unsent) n (inOf st .transfer) (λ e. absurd (eqb-false (inOf st .transfer .phase) SENDING (none-right _ _ r) e)) (h .inward .phase) }) (λ p. p) (λ k. absurd (true≢false (sym k ∙ c)))
+      with-in st h _
+      (record {
+        halted = h .inward .halted;
+        reply = omega arith;
+        phase = phase-kept (inOf st .reply .unsent) n (inOf st .transfer)
+            (λ e. absurd (eqb-false (inOf st .transfer .phase) SENDING (none-right _ _ r) e)) (h .inward .phase);
+      }) (λ p. p) (λ k. absurd (true≢false (sym k ∙ c)))

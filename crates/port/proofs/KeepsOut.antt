@@ -10,10 +10,12 @@ use lib.ListN.{length}
 use borrow.Author.Tests.{eqb-true, eqb-false, ltb-true, ltb-false, lt-ltb}
 use Rattle.rules.specs.Choice.{_=ᵇ_, _≠ᵇ_, _<ᵇ_, no}
 use Rattle.rules.proofs.Choice.{pick-all, none-right, not-both, either}
-use Rattle.wire.specs.Header.{HEADER, aligned, ON}
+use Rattle.rules.specs.Flags.{ON}
+use Rattle.wire.specs.Header.{HEADER, aligned}
 use Rattle.wire.specs.declared.types.Header.{Header}
 use Rattle.wire.specs.declared.types.Header.the-variants.{Message, Request, Trigger}
-use Rattle.port.specs.Parts.{STORE, FULL-SPEED, HIGH-SPEED, isSize, OWED, on, keepsHalt, outOf, inOf, packetSize, closedOut, withOut, fresh, broken, haltedOut}
+use Rattle.port.specs.Parts.{STORE, isSize, OWED, on, keepsHalt, outOf}
+use Rattle.port.specs.Parts.{inOf, packetSize, closedOut, withOut, fresh, broken, haltedOut}
 use Rattle.port.specs.Out.{wrongLength, dataLength, absorbed, opened, tagged, accepted, planned}
 use Rattle.port.specs.declared.types.Setting.{Setting}
 use Rattle.port.specs.declared.types.OutMessage.{OutMessage}
@@ -23,6 +25,7 @@ use Rattle.port.specs.declared.types.Split.{Split}
 use Rattle.port.specs.declared.types.Split.the-variants.{None, AbortOut, AbortIn, Clear}
 use Rattle.port.specs.declared.types.State.{State}
 use Rattle.port.specs.declared.types.Outcome.the-variants.{Data, Accept}
+use Rattle.port.proofs.Sizes.{size-of}
 use Rattle.port.proofs.Soundness.{RestingOut, OutSound, is-closed, is-asked, SplitSound, Sound}
 use Rattle.port.proofs.Ways.{Passed, Continues, Heads}
 
@@ -41,10 +44,6 @@ fresh-sound setting configured size c = record {
   interrupt = record { halted = omega arith; waiting = λ e. absurd (false≢true e); silent = λ _. (refl, refl) };
   split = λ e. absurd (omega arith);
 }
-
--- a packet is longer than a header
-pub size-long : (p : ℕ) → isSize p ≡ true → HEADER < p
-size-long p e = ⊎-elim (λ h. let f = eqb-true p FULL-SPEED h in omega arith) (λ h. let f = eqb-true p HIGH-SPEED h in omega arith) (either _ _ e)
 
 -- ** a halt, or the end of one
 
@@ -106,7 +105,8 @@ running-split (AbortIn count) o o′ b b′ k r p = k
 running-split Clear o o′ b b′ k r p = absurd (r (k .halted))
 
 -- `count` bytes of an open transfer: some are left to come, or it is complete
-absorbed-sound : (o : BulkOut) (count : ℕ) → o .halted ≡ 0 → o .transfer .end ≤ 1 → (o .recent ≡ 0 → ⊥) → o .message .held + o .transfer .left ≤ STORE → o .transfer .got ≤ o .message .held → count ≤ o .transfer .left
+absorbed-sound : (o : BulkOut) (count : ℕ) → o .halted ≡ 0 → o .transfer .end ≤ 1 → (o .recent ≡ 0 → ⊥) → o .message .held + o .transfer .left ≤ STORE → o .transfer .got ≤ o .message .held
+    → count ≤ o .transfer .left
     → (o .transfer .got + count ≡ 0 → ⊥) → OutSound (absorbed o count)
 unfolding absorbed
 absorbed-sound o count running end tag room within fits some =
@@ -128,7 +128,8 @@ module _ (st : State) (s : List ℕ) where
       record {
         port = h .port;
         out = ⊎-elim
-            (λ w. let o = w .1 in let r = o .room in let g = o .within in absorbed-sound (outOf st) (min (outOf st .transfer .left) (length s)) (o .running) (o .end) (o .tag) r g (omega arith) (λ e. o .some (omega arith)))
+            (λ w. let o = w .1 in let r = o .room in let g = o .within in absorbed-sound (outOf st) (min (outOf st .transfer .left) (length s)) (o .running) (o .end) (o .tag) r g
+            (omega arith) (λ e. o .some (omega arith)))
             (λ w. absurd (c .is-open (w .0)))
             (h .out);
         inward = h .inward;
@@ -139,9 +140,10 @@ module _ (st : State) (s : List ℕ) where
   -- a message whose header packet does not bring all of it came in a full packet
   part-full : (size : ℕ) → wrongLength (packetSize st) (length s) (HEADER + aligned size) ≡ false → isSize (packetSize st) ≡ true → length s - HEADER < size → HEADER < length s
   part-full size e p l =
-      let long : HEADER < packetSize st = size-long _ p in
+      let long : HEADER < packetSize st = let k = size-of (packetSize st) p .least in omega arith in
       let f = not-both (length s <ᵇ HEADER + aligned size) (length s <ᵇ packetSize st) (none-right (HEADER + aligned size <ᵇ length s) _ e) in
-      ⊎-elim (λ d. let b : length s < HEADER + aligned size = d in let w : packetSize st ≤ length s = ltb-false _ _ (f (lt-ltb _ _ b)) in omega arith) (λ d. let b : HEADER + aligned size ≤ length s = d in omega arith) (either-order (length s) (HEADER + aligned size))
+      ⊎-elim (λ d. let b : length s < HEADER + aligned size = d in let w : packetSize st ≤ length s = ltb-false _ _ (f (lt-ltb _ _ b)) in omega arith)
+      (λ d. let b : HEADER + aligned size ≤ length s = d in omega arith) (either-order (length s) (HEADER + aligned size))
     where
       either-order : (m n : ℕ) → (m < n) ⊎ (n ≤ m)
       either-order m n = ⊎-elim (λ e. inl (ltb-true m n e)) (λ e. inr (ltb-false m n e)) (cases (m <ᵇ n))
@@ -162,8 +164,10 @@ module _ (st : State) (s : List ℕ) where
       let room : outOf st .message .held + size ≤ STORE = ltb-false _ _ (c .none .1 .0) in
       record {
         port = h .port;
-        out = absorbed-sound (opened (outOf st) tag size end) (min size (length s - HEADER)) (let b = r .halted in let n = running (c .passed) in ⊎-elim (λ e. absurd (n e)) (λ e. e) (flag (outOf st .halted) b)) (law .2) (law .0) room (omega arith) (omega arith)
-            (λ e. law .1 (⊎-elim (λ l. let f : HEADER < length s = part-full size (c .none .1 .1 .0) (h .port .size) (ltb-true _ _ l) in absurd (omega arith)) (λ l. let b : size ≤ length s - HEADER = ltb-false _ _ l in omega arith) (cases (length s - HEADER <ᵇ size))));
+        out = absorbed-sound (opened (outOf st) tag size end) (min size (length s - HEADER)) (let b = r .halted in
+            let n = running (c .passed) in ⊎-elim (λ e. absurd (n e)) (λ e. e) (flag (outOf st .halted) b)) (law .2) (law .0) room (omega arith) (omega arith)
+            (λ e. law .1 (⊎-elim (λ l. let f : HEADER < length s = part-full size (c .none .1 .1 .0) (h .port .size) (ltb-true _ _ l) in absurd (omega arith))
+            (λ l. let b : size ≤ length s - HEADER = ltb-false _ _ l in omega arith) (cases (length s - HEADER <ᵇ size))));
         inward = h .inward;
         interrupt = h .interrupt;
         split = running-split (st .split) _ _ _ _ (h .split) (running (c .passed)) (λ e. e);

@@ -19,7 +19,8 @@ use Rattle.wire.specs.declared.types.Read.{Read}
 use Rattle.wire.specs.declared.types.Read.the-variants.{Good, Fault}
 use Rattle.wire.specs.declared.types.Endpoint.the-variants.{Out, In, Interrupt}
 use Rattle.wire.specs.declared.types.Row.{Row}
-use Rattle.wire.specs.declared.types.Row.the-variants.{InitiateAbortBulkOut, CheckAbortBulkOutStatus, InitiateAbortBulkIn, CheckAbortBulkInStatus, InitiateClear, CheckClearStatus, GetCapabilities}
+use Rattle.wire.specs.declared.types.Row.the-variants.{InitiateAbortBulkOut, CheckAbortBulkOutStatus, InitiateAbortBulkIn, CheckAbortBulkInStatus}
+use Rattle.wire.specs.declared.types.Row.the-variants.{InitiateClear, CheckClearStatus, GetCapabilities}
 use Rattle.wire.specs.declared.types.Row.the-variants.{IndicatorPulse, ReadStatusByte, RenControl, GoToLocal, LocalLockout, ClearFeature, SetFeature, GetStatus}
 use Rattle.wire.specs.declared.types.Setup.{Setup}
 use Rattle.wire.specs.declared.types.Setup.the-variants.{Configure, Asks, NoRow}
@@ -28,7 +29,8 @@ use Rattle.wire.proofs.When.{header-law}
 use Rattle.port.specs.Parts.{STORE, on, isOpenOut, outOf, inOf, packetSize, askedIn}
 use Rattle.port.specs.Answer.{Answer}
 use Rattle.port.specs.Out.{moreRules, more, outOfTurn, dataLength, headerRules, headerSays, outRules, outcome, absorbed}
-use Rattle.port.specs.Reply.{asked, Reader, unread, dueAfter, askedBy, requestsNow, afterPacket, byBytes, aborted, cleared, closedBy, broken as cut-off, afterSetup}
+use Rattle.port.specs.Reply.{asked, Reader, unread, dueAfter, askedBy, requestsNow, afterPacket}
+use Rattle.port.specs.Reply.{byBytes, aborted, cleared, closedBy, broken as cut-off, afterSetup}
 use Rattle.port.specs.declared.types.BulkOut.{BulkOut}
 use Rattle.port.specs.declared.types.State.{State}
 use Rattle.port.specs.declared.types.Outcome.{Outcome}

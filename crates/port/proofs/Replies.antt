@@ -14,34 +14,42 @@ use Rattle.rules.specs.Answers.{DONE, UNCONFIGURED, WRONG-SIZE, HALTED, WAIT, N
 use Rattle.rules.specs.When.{Not}
 use Rattle.rules.proofs.Choice.{pick-all, decide-all, at-true, at-false, no-true, not-no, none-left, none-right, neb-ne, neb-eq, not-both, either}
 use Rattle.wire.specs.Bytes.{bytes4}
-use Rattle.wire.specs.Header.{HEADER, OFF, inHeader}
+use Rattle.rules.specs.Flags.{OFF}
+use Rattle.wire.specs.Header.{HEADER, inHeader}
 use Rattle.wire.specs.Setup.{readSetup}
 use Rattle.wire.specs.When.{at, Commands, Requests, rows, Matches}
 use Rattle.wire.specs.declared.types.Header.the-variants.{Message, Request, Trigger}
 use Rattle.wire.specs.declared.types.Endpoint.the-variants.{Out, In, Interrupt}
 use Rattle.wire.specs.declared.types.Row.{Row}
-use Rattle.wire.specs.declared.types.Row.the-variants.{InitiateAbortBulkOut, CheckAbortBulkOutStatus, InitiateAbortBulkIn, CheckAbortBulkInStatus, InitiateClear, CheckClearStatus, GetCapabilities}
+use Rattle.wire.specs.declared.types.Row.the-variants.{InitiateAbortBulkOut, CheckAbortBulkOutStatus, InitiateAbortBulkIn, CheckAbortBulkInStatus}
+use Rattle.wire.specs.declared.types.Row.the-variants.{InitiateClear, CheckClearStatus, GetCapabilities}
 use Rattle.wire.specs.declared.types.Row.the-variants.{IndicatorPulse, ReadStatusByte, RenControl, GoToLocal, LocalLockout, ClearFeature, SetFeature, GetStatus}
 use Rattle.wire.specs.declared.types.Setup.{Setup}
 use Rattle.wire.specs.declared.types.Setup.the-variants.{Configure, Asks, NoRow}
 use Rattle.wire.proofs.When.{setup-law}
-use Rattle.port.specs.Parts.{STORE, isSize, CLOSED, ASKED, SENDING, OWED, on, isOpenOut, isOpenIn, isOwed, isClear, hasReply, outOf, inOf, interruptOf, packetSize, isConfigured, closedIn, owedIn, fresh}
+use Rattle.port.specs.Parts.{STORE, isSize, CLOSED, ASKED, SENDING, OWED, on, isOpenOut, isOpenIn, isOwed, isClear}
+use Rattle.port.specs.Parts.{hasReply, outOf, inOf, interruptOf, packetSize, isConfigured, closedIn, owedIn, fresh}
 use Rattle.port.specs.Parts.{emptyIn, withInHalted, broken, shut}
 use Rattle.port.specs.Remote.{localNow}
-use Rattle.port.specs.Answer.{Said, number, refuse}
+use Rattle.port.specs.Answer.{Said, numbered, refuse}
 use Rattle.port.specs.In.{Packet, sendable, marks, gone, fixed, header, started, toGo, send, nextPacket, inRules, sends, poll}
 use Rattle.port.specs.Interrupt.{isWaiting, interruptRules, interruptPoll}
-use Rattle.port.specs.Rows.{Reaction, answering, abortRules, outTag, inTag, initiateAbortOut, initiateAbortIn, checkAbortOut, checkAbortIn, initiateClear, checkClear, readStatus, answerRow, clearing}
+use Rattle.port.specs.Rows.{Reaction, answering, abortRules, outTag, inTag, initiateAbortOut, initiateAbortIn, checkAbortOut}
+use Rattle.port.specs.Rows.{checkAbortIn, initiateClear, checkClear, readStatus, answerRow, clearing}
 use Rattle.port.specs.Rows.{clearFeatureOut, clearFeatureIn, effected}
 use Rattle.port.specs.Device.{Device, Result, isSound, withState, unsentIn, unsentOf, made, powerOn}
 use Rattle.port.specs.Out.{plain, opened, outcome, accepted, planned, outPlan}
 use Rattle.port.specs.Calls.{takeRules, released, taking, take-message, thermostatRules, statusSet, setStatus, returned, panel, busReset, suspend}
-use Rattle.port.specs.Calls.{refused, carriedOut, bulkOut, said, offerRules, offered, offerPlan, withReply, offer, setupRules, asked as asks-for, setupOutcome, answered, setup, bulkIn, interruptIn}
-use Rattle.port.specs.Step.{in-poll, interrupt-poll, offer-reply, set-status, front-panel, bus-suspend, SetupPacket, Call, setup-packet, out-packet, take-into, bus-reset, quiet, quietly, soundly, step}
+use Rattle.port.specs.Calls.{refused, withMessage, bulkOut, said, offerRules, offered, offerPlan, withReply, offer}
+use Rattle.port.specs.Calls.{setupRules, asked as asks-for, setupOutcome, answered, setup, bulkIn, interruptIn}
+use Rattle.port.specs.Step.{in-poll, interrupt-poll, offer-reply, set-status, front-panel, bus-suspend, SetupPacket}
+use Rattle.port.specs.Step.{Call, setup-packet, out-packet, take-into, bus-reset, quiet, quietly, soundly, step}
 use Rattle.port.specs.Trace.{trace}
 use Rattle.port.specs.Laws.{Stored}
-use Rattle.port.specs.Reply.{Asked, portion, inTransfer, inPackets, InLine, shut as closed, owing, asked, sending, Reader, unread, dueAfter, requestsNow, afterPacket, remaining, tail, afterPoll}
-use Rattle.port.specs.Reply.{owingNow, cleared, closedBy, broken as cut-off, afterCall, FirstOf, Polled, Free, Closed, Expects, Reading, lineOf, readerOf, RepliesRead, RepliesReadEver}
+use Rattle.port.specs.Reply.{Asked, portion, inTransfer, inPackets, InLine, shut as closed, owing, asked, sending}
+use Rattle.port.specs.Reply.{Reader, unread, dueAfter, requestsNow, afterPacket, remaining, tail, afterPoll}
+use Rattle.port.specs.Reply.{owingNow, cleared, closedBy, broken as cut-off, afterCall, FirstOf, Polled, Free}
+use Rattle.port.specs.Reply.{Closed, Expects, Reading, lineOf, readerOf, RepliesRead, RepliesReadEver}
 use Rattle.port.specs.declared.types.InTransfer.{InTransfer}
 use Rattle.port.specs.declared.types.BulkIn.{BulkIn}
 use Rattle.port.specs.declared.types.Split.{Split}
@@ -53,10 +61,11 @@ use Rattle.port.specs.declared.types.Plan.{Plan}
 use Rattle.port.specs.declared.types.Outcome.{Outcome}
 use Rattle.port.specs.declared.types.Outcome.the-variants.{Keep, Halt, Data, Accept}
 use Rattle.port.proofs.Soundness.{Phase, is-closed, is-asked, is-sending, is-owed, Sound, sound-of}
-use Rattle.port.proofs.KeepsOut.{size-long}
+use Rattle.port.proofs.Sizes.{size-of}
 use Rattle.port.proofs.Calls.{power-on-sound, power-on-stored, unstored, row-done, step-sound, keeps-sound, keeps-stored}
 use Rattle.port.proofs.Sending.{Asks as AsksFor, Line, Sends, sends as packet-sent, sendable-portion, first-to-go}
-use Rattle.port.proofs.Readers.{byRow, setup-told, setup-unheard, absorbed-left, due-more, due-command, due-other, is-request, no-request, packet-kept, packet-halted, packet-done, asks-same}
+use Rattle.port.proofs.Readers.{byRow, setup-told, setup-unheard, absorbed-left, due-more, due-command, due-other}
+use Rattle.port.proofs.Readers.{is-request, no-request, packet-kept, packet-halted, packet-done, asks-same}
 use Rattle.port.proofs.Readers.{Came, came}
 
 -- ** a unit and a reader
@@ -221,13 +230,13 @@ module _ (u : Device) (r : Reader) (stored : Stored u) (h : Sound (u .state)) (a
     Comes x = Goes (setup-packet p) (answered u x)
 
     denied : (n : ℕ) → Not (n ≡ 0) → Goes (setup-packet p) (refused u n)
-    denied n z = record { expects = tt; agrees = subst (Agreed P (seen u)) (sym (setup-unheard r (p .packet) (number n) z)) agreed }
+    denied n z = record { expects = tt; agrees = subst (Agreed P (seen u)) (sym (setup-unheard r (p .packet) (numbered n) z)) agreed }
 
     served : (x : Setup) → Matches (p .packet) rows x → Comes (asks-for st x)
     unfolding asks-for answered made fresh
     served (Configure value) m = record {
       expects = tt;
-      agrees = subst (Agreed P _) (sym (setup-told r (p .packet) (number DONE) (Configure value) refl m)) (record { size = refl; due = refl; unsent = refl; line = refl });
+      agrees = subst (Agreed P _) (sym (setup-told r (p .packet) (numbered DONE) (Configure value) refl m)) (record { size = refl; due = refl; unsent = refl; line = refl });
     }
     served (Asks row) m =
         pick-all Comes (isConfigured st) _ _
@@ -283,7 +292,7 @@ module _ (u : Device) (r : Reader) (stored : Stored u) (h : Sound (u .state)) (a
       )
 
   wide : HEADER < P
-  wide = size-long P (h .port .size)
+  wide = let k = size-of P (h .port .size) .least in omega arith
 
   in-store : b .reply .at + b .reply .unsent ≤ length (u .reply)
   in-store = let k = h .inward .reply in let s = stored .reply in omega arith
@@ -409,7 +418,7 @@ module _ (u : Device) (r : Reader) (stored : Stored u) (h : Sound (u .state)) (a
     plain-goes : {q : Result} → q .answer .verdict .number ≡ 0 → seen (q .unit) ≡ seen u → left ≡ 0 → Not (Commands s) → Not (Requests s) → Goes (out-packet s) q
     plain-goes z e l c n = accepts left z e (due-other (r .due) s (agreed .due ∙ l) c ∙ sym l) (no-request (r .due) s (inr n))
 
-    packet-goes : (x : Outcome) → Came st s x → Goes (out-packet s) (carriedOut u s (planned st x))
+    packet-goes : (x : Outcome) → Came st s x → Goes (out-packet s) (withMessage u s (planned st x))
     unfolding planned accepted broken
     packet-goes (Keep n) (inl c) =
         let none : at s 0 ≡ 0 = List·getD-eq-default s 0 (let l = c .1 in omega arith) in plain-goes (c .0) refl (c .2) (λ e. omega arith) (λ e. omega arith)

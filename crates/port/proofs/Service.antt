@@ -17,26 +17,32 @@ use Rattle.wire.specs.When.{at, twoAt, Column, rows, Matches}
 use Rattle.wire.specs.declared.types.Endpoint.the-variants.{Out, In, Interrupt}
 use Rattle.wire.specs.declared.types.Header.the-variants.{Message, Request, Trigger}
 use Rattle.wire.specs.declared.types.Row.{Row}
-use Rattle.wire.specs.declared.types.Row.the-variants.{InitiateAbortBulkOut, CheckAbortBulkOutStatus, InitiateAbortBulkIn, CheckAbortBulkInStatus, InitiateClear, CheckClearStatus, GetCapabilities}
+use Rattle.wire.specs.declared.types.Row.the-variants.{InitiateAbortBulkOut, CheckAbortBulkOutStatus, InitiateAbortBulkIn, CheckAbortBulkInStatus}
+use Rattle.wire.specs.declared.types.Row.the-variants.{InitiateClear, CheckClearStatus, GetCapabilities}
 use Rattle.wire.specs.declared.types.Row.the-variants.{IndicatorPulse, ReadStatusByte, RenControl, GoToLocal, LocalLockout, ClearFeature, SetFeature, GetStatus}
 use Rattle.wire.specs.declared.types.Setup.{Setup}
 use Rattle.wire.specs.declared.types.Setup.the-variants.{Configure, Asks, NoRow}
 use Rattle.wire.proofs.When.{setup-law}
 use Rattle.wire.proofs.SetupLaws.{Tagged, InRange, setup-ranged}
-use Rattle.port.specs.Parts.{isSize, on, isOpenOut, isOpenIn, isOwed, isClear, outOf, inOf, interruptOf, isConfigured, withStatus, withWaiting, noPacket, fresh}
+use Rattle.port.specs.Parts.{isSize, on, isOpenOut, isOpenIn, isOwed, isClear, outOf, inOf, interruptOf}
+use Rattle.port.specs.Parts.{isConfigured, withStatus, withWaiting, noPacket, fresh}
 use Rattle.port.specs.Remote.{localNow}
-use Rattle.port.specs.Answer.{Answer, Said, number, refuse}
+use Rattle.port.specs.Answer.{Answer, Said, numbered, refuse}
 use Rattle.port.specs.Out.{planned, accepted, outPlan, outcome, plain}
 use Rattle.port.specs.In.{inRules, poll}
 use Rattle.port.specs.Interrupt.{asksService, withoutBit6, isWaiting, notified, statusHeld, polled, statusQueued, interruptRules, interruptPoll}
-use Rattle.port.specs.Rows.{Reaction, answering, abortRules, outTag, inTag, initiateAbortOut, initiateAbortIn, checkAbortOut, checkAbortIn, initiateClear, checkClear, readStatus, answerRow}
+use Rattle.port.specs.Rows.{Reaction, answering, abortRules, outTag, inTag, initiateAbortOut, initiateAbortIn}
+use Rattle.port.specs.Rows.{checkAbortOut, checkAbortIn, initiateClear, checkClear, readStatus, answerRow}
 use Rattle.port.specs.Rows.{clearing, effected}
 use Rattle.port.specs.Device.{Device, Result, isSound, withState, made, powerOn}
-use Rattle.port.specs.Calls.{refused, said, carriedOut, bulkOut, bulkIn, interruptIn, setupRules, asked, setupOutcome, answered, setup, takeRules, taking, take-message, offerRules, offerPlan, withReply, offer}
+use Rattle.port.specs.Calls.{refused, said, withMessage, bulkOut, bulkIn, interruptIn, setupRules, asked, setupOutcome}
+use Rattle.port.specs.Calls.{answered, setup, takeRules, taking, take-message, offerRules, offerPlan, withReply, offer}
 use Rattle.port.specs.Calls.{thermostatRules, statusSet, setStatus, returned, panel, busReset, suspend}
-use Rattle.port.specs.Step.{in-poll, interrupt-poll, offer-reply, set-status, front-panel, bus-suspend, SetupPacket, Call, setup-packet, out-packet, take-into, bus-reset, quiet, quietly, soundly, step}
+use Rattle.port.specs.Step.{in-poll, interrupt-poll, offer-reply, set-status, front-panel, bus-suspend, SetupPacket}
+use Rattle.port.specs.Step.{Call, setup-packet, out-packet, take-into, bus-reset, quiet, quietly, soundly, step}
 use Rattle.port.specs.Trace.{trace}
-use Rattle.port.specs.Service.{Watch, unwatched, bit6, none, behind, afterStatus, readsStatus, afterRequest, watchCall, watched, StatusAnswered, Tells, Watching, watchOf, StatusTold, StatusToldEver}
+use Rattle.port.specs.Service.{Watch, unwatched, bit6, none, behind, afterStatus, readsStatus, afterRequest, watchCall}
+use Rattle.port.specs.Service.{watched, StatusAnswered, Tells, Watching, watchOf, StatusTold, StatusToldEver}
 use Rattle.port.specs.declared.types.Notify.{Notify}
 use Rattle.port.specs.declared.types.InterruptIn.{InterruptIn}
 use Rattle.port.specs.declared.types.Split.{Split}
@@ -197,7 +203,7 @@ module _ (u : Device) where
     moves : watchOf (q .unit) ≡ watched w c (q .answer)
 
   -- answered with another number than 0, the unit as it was
-  refuses : (c : Call) (n : ℕ) → Not (n ≡ 0) → Tells w c (number n) → Goes c (refused u n)
+  refuses : (c : Call) (n : ℕ) → Not (n ≡ 0) → Tells w c (numbered n) → Goes c (refused u n)
   unfolding watched
   refuses c n z t = record { tells = t; moves = sym (at-false _ _ _ (ne-eqb n 0 z)) }
 
@@ -223,7 +229,8 @@ module _ (u : Device) where
   row-moves : (row : Row) → ((tag : ℕ) → row ≡ ReadStatusByte tag → tag ≤ 127) → seenAfter (answerRow st row) ≡ byRow w (answerRow st row .answer .bytes) row
   unfolding answerRow initiateAbortOut initiateAbortIn checkAbortOut checkAbortIn initiateClear checkClear readStatus effected localNow clearing pick
   row-moves (InitiateAbortBulkOut tag) t =
-      ap seen (decide-all Stays (λ status. answering (status ∷ outTag (outOf st) ∷ [])) (abortRules (st .split) (isOpenOut (outOf st)) (outTag (outOf st)) tag) _ (refl, (refl, (refl, tt))) (λ _. refl))
+      ap seen (decide-all Stays (λ status. answering (status ∷ outTag (outOf st) ∷ [])) (abortRules (st .split) (isOpenOut (outOf st)) (outTag (outOf st)) tag) _ (refl, (refl, (refl, tt)))
+      (λ _. refl))
   row-moves CheckAbortBulkOutStatus t = ap seen (split-stays checkAbortOut refl (λ _. refl) (λ _. refl) refl (st .split))
   row-moves (InitiateAbortBulkIn tag) t =
       ap seen (decide-all Stays (λ status. answering (status ∷ inTag (inOf st) ∷ [])) (abortRules (st .split) (isOpenIn (inOf st)) (inTag (inOf st)) tag) _ (refl, (refl, (refl, tt))) (λ _. refl))
@@ -266,7 +273,7 @@ module _ (u : Device) where
     unfolding asked answered made fresh no _≠ᵇ_ pick
     served (Configure value) m k =
         let f = matched w [] (p .packet) (Configure value) m in
-        goes-to c _ (number DONE) refl (λ _ e. absurd (f .1 e)) (sym (f .0))
+        goes-to c _ (numbered DONE) refl (λ _ e. absurd (f .1 e)) (sym (f .0))
     served (Asks row) m k =
         let a = answerRow st row .answer in
         let f = matched w (a .bytes) (p .packet) (Asks row) m in
@@ -321,7 +328,7 @@ module _ (u : Device) where
   goes (setup-packet p) = setup-goes p
   goes (out-packet s) = still (out-packet s) (λ _. tt) (λ _. refl) _ _ (planned-stays st (outcome st s))
   goes (take-into room) = still _ (λ _. tt) (λ _. refl) _ _ (decide-all Kept (refuse st) (takeRules st room) _ (refl, (refl, (refl, tt))) (λ _. refl))
-  goes bus-reset = goes-to bus-reset _ (number DONE) refl tt refl
+  goes bus-reset = goes-to bus-reset _ (numbered DONE) refl tt refl
   goes (quiet (in-poll room)) = still _ (λ _. tt) (λ _. refl) _ _ (decide-all Kept (refuse st) (inRules st room) _ (refl, (refl, (refl, (refl, tt)))) (λ _. refl))
   goes (quiet (interrupt-poll room)) = poll-goes room
   goes (quiet (offer-reply bytes)) =

@@ -8,11 +8,14 @@ use mathlib.Core.Logic.{_⊎_, inl, inr, ⊎-elim}
 use native.Mathlib.Omega.{arith}
 use borrow.Author.Tests.{le-leb, leb-true, eq-eqb, ne-eqb, eqb-true, eqb-false}
 use Rattle.rules.specs.Choice.{_=ᵇ_, _≠ᵇ_, _≤ᵇ_, no, _or_, _and_, pick, _⇒_∣_, first, _&_, all, implies}
-use Rattle.rules.proofs.Choice.{all-of, of-all, at-true, at-false, pick-all, neb-ne, neb-eq, ne-neb, eq-neb, or-left, or-right, no-true, is-no, and-both, both-left, both-right, either}
-use Rattle.wire.specs.Header.{OFF}
+use Rattle.rules.proofs.Choice.{all-of, of-all, at-true, at-false, pick-all, neb-ne, neb-eq, ne-neb, eq-neb}
+use Rattle.rules.proofs.Choice.{or-left, or-right, no-true, is-no, and-both, both-left, both-right, either}
+use Rattle.rules.specs.Flags.{OFF}
 use Rattle.port.specs.Parts.{STORE, isSize, CLOSED, ASKED, SENDING, OWED, on, isOpenOut, isOwed, portOf, outOf, inOf, interruptOf}
 use Rattle.port.specs.Interrupt.{asksService, isWaiting}
-use Rattle.port.specs.Sound.{isFlag, portSound, openSound, heldSound, restingSound, outSound, unasked, unsending, idle, askedSound, sendingSound, phaseSound, inSound, packetSound, waitingSound, silentSound, interruptSound, clearSound, notOwed, abortOutSound, splitSound, sound}
+use Rattle.port.specs.Sound.{isFlag, portSound, openSound, heldSound, restingSound, outSound, unasked, unsending}
+use Rattle.port.specs.Sound.{idle, askedSound, sendingSound, phaseSound, inSound, packetSound, waitingSound, silentSound}
+use Rattle.port.specs.Sound.{interruptSound, clearSound, notOwed, abortOutSound, splitSound, sound}
 use Rattle.port.specs.declared.types.Port.{Port}
 use Rattle.port.specs.declared.types.OutMessage.{OutMessage}
 use Rattle.port.specs.declared.types.BulkOut.{BulkOut}
@@ -70,7 +73,8 @@ pub record OpenOut (o : BulkOut) : Type 0 where
   pub room : o .message .held + o .transfer .left ≤ STORE
 
 abbrev open-tests : BulkOut → List Bool
-open-tests o = o .halted =ᵇ OFF & o .message .ready =ᵇ OFF & isFlag (o .transfer .end) & o .recent ≠ᵇ 0 & o .transfer .got ≠ᵇ 0 & o .transfer .got ≤ᵇ o .message .held & o .message .held ≤ᵇ STORE & o .transfer .left ≤ᵇ STORE - o .message .held & []
+open-tests o = o .halted =ᵇ OFF & o .message .ready =ᵇ OFF & isFlag (o .transfer .end) & o .recent ≠ᵇ 0 & o .transfer .got ≠ᵇ 0 & o .transfer .got ≤ᵇ o .message .held & o .message .held ≤ᵇ
+    STORE & o .transfer .left ≤ᵇ STORE - o .message .held & []
 
 pub open-of : (o : BulkOut) → openSound o ≡ true → OpenOut o
 unfolding openSound
@@ -158,7 +162,8 @@ resting-to o h =
                 of-all (held-tests (o .halted) (o .message)) (
                   imply-to (on (o .message .ready)) _ (λ r. ne-neb _ _ (h .whole (eqb-true _ _ r))),
                   (
-                    imply-to (on (o .halted) and no (on (o .message .ready))) _ (λ r. eq-eqb _ _ (h .dropped (eqb-true _ _ (both-left _ _ r)) (eqb-false _ _ (is-no _ (both-right (on (o .halted)) _ r))))),
+                    imply-to (on (o .halted) and no (on (o .message .ready))) _
+                        (λ r. eq-eqb _ _ (h .dropped (eqb-true _ _ (both-left _ _ r)) (eqb-false _ _ (is-no _ (both-right (on (o .halted)) _ r))))),
                     tt,
                   ),
                 ),
@@ -358,8 +363,13 @@ in-of b e =
 in-to : (b : BulkIn) → InSound b → inSound b ≡ true
 unfolding inSound
 in-to b h =
-    of-all (in-tests b)
-    (le-leb _ _ (h .halted), (le-leb (b .reply .at) STORE (let r = h .reply in omega arith), (le-leb (b .reply .unsent) (STORE - b .reply .at) (let r = h .reply in omega arith), (phase-to _ _ (h .phase), tt))))
+    of-all (in-tests b) (
+      le-leb _ _ (h .halted),
+      (
+        le-leb (b .reply .at) STORE (let r = h .reply in omega arith),
+        (le-leb (b .reply .unsent) (STORE - b .reply .at) (let r = h .reply in omega arith), (phase-to _ _ (h .phase), tt)),
+      ),
+    )
 
 -- ** Interrupt-IN
 

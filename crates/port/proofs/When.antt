@@ -32,10 +32,12 @@ use Rattle.port.specs.Out.{wrongLength, fitRules, more, headerSays, outc
 use Rattle.port.specs.In.{poll}
 use Rattle.port.specs.Interrupt.{interruptPoll}
 use Rattle.port.specs.Device.{Device, Result, isSound, powerOn}
-use Rattle.port.specs.Calls.{said, carriedOut, bulkOut, bulkIn, interruptIn, asked, setupOutcome, answered, setup}
+use Rattle.port.specs.Calls.{said, withMessage, bulkOut, bulkIn, interruptIn, asked, setupOutcome, answered, setup}
 use Rattle.port.specs.Calls.{taking, take-message, offerPlan, withReply, offer, statusSet, setStatus, returned, panel, busReset, suspend}
-use Rattle.port.specs.Step.{in-poll, interrupt-poll, offer-reply, set-status, front-panel, bus-suspend, Call, setup-packet, out-packet, take-into, bus-reset, quiet, quietly, soundly, step}
-use Rattle.port.specs.When.{Unsound, Unconfigured, MessageUnfinished, OutOpen, ReplyStored, OutOfTurn, TooLong, HeaderWrongLength, Misaligned, ofMore, ofHeader, ofPacket}
+use Rattle.port.specs.Step.{in-poll, interrupt-poll, offer-reply, set-status, front-panel, bus-suspend, Call}
+use Rattle.port.specs.Step.{setup-packet, out-packet, take-into, bus-reset, quiet, quietly, soundly, step}
+use Rattle.port.specs.When.{Unsound, Unconfigured, MessageUnfinished, OutOpen, ReplyStored, OutOfTurn}
+use Rattle.port.specs.When.{TooLong, HeaderWrongLength, Misaligned, ofMore, ofHeader, ofPacket}
 use Rattle.port.specs.When.{Configures, Served, given, givenPower, RuleForEvery, PowerRule}
 use Rattle.port.specs.declared.types.Split.{Split}
 use Rattle.port.specs.declared.types.Split.the-variants.{None, AbortOut, AbortIn, Clear}
@@ -43,7 +45,8 @@ use Rattle.port.specs.declared.types.Outcome.{Outcome}
 use Rattle.port.specs.declared.types.Outcome.the-variants.{Keep, Halt}
 use Rattle.port.specs.declared.types.SetupOutcome.{SetupOutcome}
 use Rattle.port.proofs.Soundness.{Sound, sound-of}
-use Rattle.port.proofs.KeepsOut.{size-long, out-held, out-ready}
+use Rattle.port.proofs.KeepsOut.{out-held, out-ready}
+use Rattle.port.proofs.Sizes.{size-of}
 use Rattle.port.proofs.Calls.{row-done}
 
 abbrev number : Result → ℕ
@@ -130,7 +133,7 @@ module _ (u : Device) (s : List ℕ) (h : Sound (u .state)) where
   plain-when x z k turn =
       let other : Not (Commands s) = λ c. apart s c k in
       let room = out-held (u .state) h in
-      let long : HEADER < packetSize (u .state) = size-long _ (h .port .size) in
+      let long : HEADER < packetSize (u .state) = let k = size-of (packetSize (u .state)) (h .port .size) .least in omega arith in
       line _ turn refl
       (λ _. line _ (in-words (λ l. absurd (omega arith)) (λ l. absurd (other (l .0))) (is-less STORE (outOf (u .state) .message .held + 0))) refl
       (λ _. line _
@@ -191,14 +194,15 @@ module _ (u : Device) (s : List ℕ) (h : Sound (u .state)) where
   asked-when x (unmatched e k) = subst (λ (y : Setup). By setupNumber (λ _. unserved) (asked (u .state) y)) (sym e) (record { told = inl (refl, λ served. k _ (served .matches)) })
 
 by-rules : (u : Device) (c : Call) → By number (λ _. given u c) (step u c)
-unfolding soundly quietly setup setupOutcome answered bulkOut outPlan outcome planned take-message taking bulkIn poll interruptIn interruptPoll offer offerPlan setStatus statusSet panel returned busReset suspend
+unfolding soundly quietly setup setupOutcome answered bulkOut outPlan outcome planned take-message taking bulkIn poll interruptIn interruptPoll offer offerPlan setStatus statusSet
+    panel returned busReset suspend
 by-rules u (setup-packet p) =
     asked-first u (setup-packet p)
     (λ h. through (answered u)
     (line _ (one-of (differs (length (p .packet)) 8) (is-less (p .room) 24)) refl (λ _. asked-when u (p .packet) h (readSetup (p .packet)) (setup-read (p .packet)))))
 by-rules u (out-packet s) =
     asked-first u (out-packet s)
-    (λ h. through (λ x. carriedOut u s (planned (u .state) x))
+    (λ h. through (λ x. withMessage u s (planned (u .state) x))
     (line _ (unconfigured u h) refl
     (λ _. line _ (is-less (packetSize (u .state)) (length s)) refl
     (λ _. line _ (equals _ 1) refl

@@ -16,12 +16,12 @@ pub record Said : Type 0 where
   pub state : State
   pub answer : Answer
 
-abbrev pub number : ℕ → Answer
-number n = record { verdict = only n; bytes = [] }
+abbrev pub numbered : ℕ → Answer
+numbered n = record { verdict = only n; bytes = [] }
 
 abbrev pub says : State → List ℕ → Said
 says st bytes = record { state = st; answer = record { verdict = done; bytes = bytes } }
 
 -- "all unchanged", no byte written
 abbrev pub refuse : State → ℕ → Said
-refuse st n = record { state = st; answer = number n }
+refuse st n = record { state = st; answer = numbered n }

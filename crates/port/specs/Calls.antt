@@ -8,13 +8,14 @@ use lib.ListN.{length, drop}
 use lib.Seq.{paste}
 use Rattle.rules.specs.Choice.{_=ᵇ_, _≠ᵇ_, _<ᵇ_, no, _or_, pick, _⇒_∣_, decide}
 use Rattle.rules.specs.Answers.{DONE, UNCONFIGURED, WRONG-SIZE, NO-ROW, NOT-NOW, only, done}
-use Rattle.wire.specs.Header.{OFF}
+use Rattle.rules.specs.Flags.{OFF}
 use Rattle.wire.specs.Setup.{SETUP, CONTROL, readSetup}
 use Rattle.wire.specs.declared.types.Setup.{Setup}
 use Rattle.wire.specs.declared.types.Setup.the-variants.{Configure, Asks, NoRow}
-use Rattle.port.specs.Parts.{STORE, on, hasReply, isClear, portOf, outOf, inOf, interruptOf, isConfigured, noMessage, withOut, withIn, withInterrupt, withRemote, holding, carrying}
+use Rattle.port.specs.Parts.{STORE, on, hasReply, isClear, portOf, outOf, inOf, interruptOf, isConfigured}
+use Rattle.port.specs.Parts.{noMessage, withOut, withIn, withInterrupt, withRemote, holding, carrying}
 use Rattle.port.specs.Remote.{byPanel, localNow}
-use Rattle.port.specs.Answer.{Said, number, says, refuse}
+use Rattle.port.specs.Answer.{Said, numbered, says, refuse}
 use Rattle.port.specs.Out.{plain, outPlan}
 use Rattle.port.specs.In.{poll}
 use Rattle.port.specs.Interrupt.{statusHeld, interruptPoll}
@@ -29,7 +30,7 @@ use Rattle.port.specs.Device.{Device, Result, withState, heldOf, unsentO
 
 -- the unit as it was, with a number
 abbrev pub refused : Device → ℕ → Result
-refused u n = record { unit = u; answer = number n }
+refused u n = record { unit = u; answer = numbered n }
 
 -- the same stores, with what was decided over the state
 abbrev pub said : Device → Said → Result
@@ -37,8 +38,8 @@ said u r = record { unit = withState u (r .state); answer = r .answer }
 
 -- ** Bulk-OUT packet: its data goes behind the bytes that the message holds
 
-abbrev pub carriedOut : Device → List ℕ → Plan → Result
-carriedOut u s plan = record {
+abbrev pub withMessage : Device → List ℕ → Plan → Result
+withMessage u s plan = record {
   unit = record {
     message = paste (u .message) (outOf (u .state) .message .held) (drop (plan .from) s) (plan .count);
     reply = u .reply;
@@ -48,7 +49,7 @@ carriedOut u s plan = record {
 }
 
 unfoldable pub bulkOut : Device → List ℕ → Result
-bulkOut u s = carriedOut u s (outPlan (u .state) s)
+bulkOut u s = withMessage u s (outPlan (u .state) s)
 
 -- ** Bulk-IN poll
 
@@ -76,7 +77,7 @@ setupOutcome st s room = decide Denies (setupRules (length s) room) (asked st (r
 
 -- "all but P as at power-on, 1 configured, 0 not"
 abbrev pub renewed : Device → ℕ → Result
-renewed u configured = record { unit = made (portOf (u .state) .setting) configured; answer = number DONE }
+renewed u configured = record { unit = made (portOf (u .state) .setting) configured; answer = numbered DONE }
 
 unfoldable pub answered : Device → SetupOutcome → Result
 answered u (Denies n) = refused u n

@@ -6,10 +6,10 @@ use mathlib.Core.List.{List}
 use lib.ListN.{take, drop, replicate}
 use Rattle.rules.specs.Choice.{pick}
 use Rattle.rules.specs.Answers.{DONE, WRONG-SIZE}
-use Rattle.wire.specs.Header.{OFF}
+use Rattle.rules.specs.Flags.{OFF}
 use Rattle.port.specs.Parts.{STORE, FULL-SPEED, isSize, fresh, outOf, inOf}
 use Rattle.port.specs.Sound.{sound}
-use Rattle.port.specs.Answer.{Answer, number}
+use Rattle.port.specs.Answer.{Answer, numbered}
 use Rattle.port.specs.declared.types.Setting.{Setting}
 use Rattle.port.specs.declared.types.BulkOut.{BulkOut}
 use Rattle.port.specs.declared.types.BulkIn.{BulkIn}
@@ -59,5 +59,5 @@ made setting configured = record { message = zeroed; reply = zeroed; state = fre
 unfoldable pub powerOn : Setting → Result
 powerOn setting =
     pick (isSize (setting .packet))
-    (record { unit = made setting OFF; answer = number DONE })
-    (record { unit = made (record { packet = FULL-SPEED }) OFF; answer = number WRONG-SIZE })
+    (record { unit = made setting OFF; answer = numbered DONE })
+    (record { unit = made (record { packet = FULL-SPEED }) OFF; answer = numbered WRONG-SIZE })

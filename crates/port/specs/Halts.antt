@@ -9,7 +9,8 @@ use Rattle.rules.specs.When.{Not, _when_∣_}
 use Rattle.wire.specs.When.{at, rows, Matches}
 use Rattle.wire.specs.declared.types.Endpoint.the-variants.{Out, In, Interrupt}
 use Rattle.wire.specs.declared.types.Row.{Row}
-use Rattle.wire.specs.declared.types.Row.the-variants.{InitiateAbortBulkOut, CheckAbortBulkOutStatus, InitiateAbortBulkIn, CheckAbortBulkInStatus, InitiateClear, CheckClearStatus}
+use Rattle.wire.specs.declared.types.Row.the-variants.{InitiateAbortBulkOut, CheckAbortBulkOutStatus, InitiateAbortBulkIn}
+use Rattle.wire.specs.declared.types.Row.the-variants.{CheckAbortBulkInStatus, InitiateClear, CheckClearStatus}
 use Rattle.wire.specs.declared.types.Row.the-variants.{ClearFeature, SetFeature, GetStatus}
 use Rattle.wire.specs.declared.types.Setup.the-variants.{Asks}
 use Rattle.port.specs.Device.{Device}
@@ -249,5 +250,6 @@ pub record SplitsAndHalts (does : Stepping) : Type 0 where
   pub tells-in : On does (GetStatus In) (λ u. TellsHalt (InHalted u) u)
   pub tells-interrupt : On does (GetStatus Interrupt) (λ u. TellsHalt (InterruptHalted u) u)
   pub faults : (u : Device) (s : List ℕ) → 5 < does u (out-packet s) .answer .verdict .number → Faults u (does u (out-packet s) .unit)
-  pub configures : (u : Device) (p : SetupPacket) → at (p .packet) 0 ≡ 0 → does u (setup-packet p) .answer .verdict .number ≡ 0 → Cleared (does u (setup-packet p) .unit)
+  pub configures : (u : Device) (p : SetupPacket) → at (p .packet) 0 ≡ 0 → does u (setup-packet p) .answer .verdict .number ≡ 0
+      → Cleared (does u (setup-packet p) .unit)
   pub resets : (u : Device) → does u bus-reset .answer .verdict .number ≡ 0 → Cleared (does u bus-reset .unit)

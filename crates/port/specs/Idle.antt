@@ -7,7 +7,7 @@ use Rattle.rules.specs.Choice.{_=ᵇ_, pick}
 use Rattle.rules.specs.Answers.{DONE}
 use Rattle.wire.specs.Bytes.{bytes4}
 use Rattle.port.specs.Parts.{outOf, isConfigured}
-use Rattle.port.specs.Answer.{Answer, number}
+use Rattle.port.specs.Answer.{Answer, numbered}
 use Rattle.port.specs.Step.{Stepping, step}
 
 -- one constant answer, whatever it is; "a unit that always refuses" is the one with a number and no bytes
@@ -15,7 +15,7 @@ unfoldable pub constant : Answer → Stepping
 constant a u c = record { unit = u; answer = a }
 
 abbrev pub refusing : ℕ → Stepping
-refusing n = constant (number n)
+refusing n = constant (numbered n)
 
 -- answers like ours, and does nothing: once it is configured, or never
 unfoldable pub idling : Stepping
@@ -26,7 +26,7 @@ doingNothing u c = record { unit = u; answer = step u c .answer }
 
 -- works until it has accepted a header, and from then on pretends that all is done
 unfoldable pub pretending : Stepping
-pretending u c = pick (outOf (u .state) .recent =ᵇ 0) (step u c) (record { unit = u; answer = number DONE })
+pretending u c = pick (outOf (u .state) .recent =ᵇ 0) (step u c) (record { unit = u; answer = numbered DONE })
 
 -- gives an abort's count as it likes: the last four of the eight bytes that CHECK_ABORT answers
 unfoldable pub madeUp : ℕ → Stepping

@@ -7,11 +7,11 @@ use mathlib.Core.List.{List, [], _∷_}
 use mathlib.Core.Logic.{_⊎_}
 use lib.ListN.{length, replicate}
 use Rattle.rules.specs.Answers.{DONE, UNSOUND, WRONG-SIZE, SUCCESS, Leaves, as-ruled, unchanged, out-halted, leaves, done}
-use Rattle.wire.specs.Header.{OFF}
+use Rattle.rules.specs.Flags.{OFF}
 use Rattle.wire.specs.Setup.{CONTROL}
 use Rattle.wire.specs.When.{at}
 use Rattle.port.specs.Parts.{STORE, FULL-SPEED, isSize, isOpenOut, unfinished, outOf, inOf, packetSize, isConfigured, isClear, haltedOut}
-use Rattle.port.specs.Answer.{Answer, number}
+use Rattle.port.specs.Answer.{Answer, numbered}
 use Rattle.port.specs.declared.types.Setting.{Setting}
 use Rattle.port.specs.Device.{Device, Result, isSound, withState, made, powerOn}
 use Rattle.port.specs.Calls.{refused}
@@ -39,8 +39,8 @@ PowerOnSound = (setting : Setting) → isSound (powerOn setting .unit) ≡ true
 -- power-on answers 0, or 3 with "an unconfigured unit of size 64"
 abbrev pub PowerOnAnswers : Type 0
 PowerOnAnswers = (setting : Setting)
-    → ((isSize (setting .packet) ≡ true) × (powerOn setting ≡ record { unit = made setting OFF; answer = number DONE }))
-    ⊎ ((isSize (setting .packet) ≡ false) × (powerOn setting ≡ record { unit = made (record { packet = FULL-SPEED }) OFF; answer = number WRONG-SIZE }))
+    → ((isSize (setting .packet) ≡ true) × (powerOn setting ≡ record { unit = made setting OFF; answer = numbered DONE }))
+    ⊎ ((isSize (setting .packet) ≡ false) × (powerOn setting ≡ record { unit = made (record { packet = FULL-SPEED }) OFF; answer = numbered WRONG-SIZE }))
 
 abbrev pub KeepsSound : Stepping → Type 0
 KeepsSound does = (u : Device) (c : Call) → isSound u ≡ true → isSound (does u c .unit) ≡ true

@@ -7,15 +7,18 @@ use mathlib.Core.Bool.{Bool, false}
 use mathlib.Core.List.{List, []}
 use lib.ListN.{length}
 use Rattle.rules.specs.Choice.{_=ᵇ_, _≠ᵇ_, _<ᵇ_, no, _or_, _and_, pick, _⇒_∣_, decide}
-use Rattle.rules.specs.Answers.{DONE, UNCONFIGURED, WRONG-SIZE, HALTED, WAIT, NOT-IN-FOURS, WRONG-LENGTH, TOO-LONG, OUT-OF-TURN, MISALIGNED, TELLS-TRIGGER, only, done}
+use Rattle.rules.specs.Answers.{DONE, UNCONFIGURED, WRONG-SIZE, HALTED, WAIT, NOT-IN-FOURS, WRONG-LENGTH}
+use Rattle.rules.specs.Answers.{TOO-LONG, OUT-OF-TURN, MISALIGNED, TELLS-TRIGGER, only, done}
 use Rattle.rules.specs.declared.verdict.Verdict.{Verdict}
 use Rattle.wire.specs.Bytes.{zeros}
-use Rattle.wire.specs.Header.{HEADER, FOUR, aligned, OFF, readHeader}
+use Rattle.rules.specs.Flags.{OFF}
+use Rattle.wire.specs.Header.{HEADER, notInFours, aligned, readHeader}
 use Rattle.wire.specs.declared.types.Header.{Header}
 use Rattle.wire.specs.declared.types.Header.the-variants.{Message, Request, Trigger}
 use Rattle.wire.specs.declared.types.Read.{Read}
 use Rattle.wire.specs.declared.types.Read.the-variants.{Good, Fault}
-use Rattle.port.specs.Parts.{STORE, on, isOpenOut, unfinished, isOpenIn, portOf, outOf, inOf, packetSize, isConfigured, closedOut, askedIn, holding, withOut, withIn, withRemote, haltedOut}
+use Rattle.port.specs.Parts.{STORE, on, isOpenOut, unfinished, isOpenIn, portOf, outOf, inOf, packetSize, isConfigured}
+use Rattle.port.specs.Parts.{closedOut, askedIn, holding, withOut, withIn, withRemote, haltedOut}
 use Rattle.port.specs.Remote.{headed, withRenOn}
 use Rattle.port.specs.declared.types.BulkOut.{BulkOut}
 use Rattle.port.specs.declared.types.BulkIn.{BulkIn}
@@ -41,7 +44,7 @@ fitRules p s from left = wrongLength p (length s) (from + aligned left) ⇒ WRON
 -- ** a continuing packet: "6, 11, 14"
 
 abbrev pub moreRules : ℕ → ℕ → List ℕ → List (Bool × ℕ)
-moreRules p left s = length s % FOUR ≠ᵇ 0 ⇒ NOT-IN-FOURS ∣ fitRules p s 0 left
+moreRules p left s = notInFours s ⇒ NOT-IN-FOURS ∣ fitRules p s 0 left
 
 unfoldable pub more : ℕ → ℕ → List ℕ → Outcome
 more p left s = decide Halt (moreRules p left s) (Data (min left (length s)))

@@ -3,7 +3,7 @@
 use Prim.Native.Nat.{ℕ}
 use mathlib.Core.Bool.{Bool, true, false}
 use Rattle.rules.specs.Choice.{_=ᵇ_, _≠ᵇ_, _or_, _and_, pick}
-use Rattle.wire.specs.Header.{OFF, ON}
+use Rattle.rules.specs.Flags.{OFF, ON}
 use Rattle.port.specs.declared.types.Setting.{Setting}
 use Rattle.port.specs.declared.types.Port.{Port}
 use Rattle.port.specs.declared.types.OutMessage.{OutMessage}

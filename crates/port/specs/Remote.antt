@@ -2,7 +2,7 @@
 -- Assumes nothing.
 use Prim.Native.Nat.{ℕ}
 use Rattle.rules.specs.Choice.{pick}
-use Rattle.wire.specs.Header.{OFF}
+use Rattle.rules.specs.Flags.{OFF}
 use Rattle.port.specs.Parts.{on, portOf, withPort, withRemote, withRen}
 use Rattle.port.specs.declared.types.State.{State}
 use Rattle.port.specs.declared.types.Remote.{Remote}

@@ -13,7 +13,8 @@ use Rattle.wire.specs.When.{at, fourAt}
 use Rattle.port.specs.Parts.{CLOSED, ASKED, SENDING, on, outOf, inOf, packetSize}
 use Rattle.port.specs.Answer.{Answer}
 use Rattle.port.specs.Device.{Device, isSound, unsentOf, powerOn}
-use Rattle.port.specs.Step.{Quiet, in-poll, interrupt-poll, offer-reply, set-status, front-panel, bus-suspend, Call, setup-packet, out-packet, take-into, bus-reset, quiet, Stepping}
+use Rattle.port.specs.Step.{Quiet, in-poll, interrupt-poll, offer-reply, set-status, front-panel, bus-suspend}
+use Rattle.port.specs.Step.{Call, setup-packet, out-packet, take-into, bus-reset, quiet, Stepping}
 use Rattle.port.specs.Trace.{Event, trace}
 use Rattle.port.specs.Laws.{Stored}
 use Rattle.port.specs.declared.types.Setting.{Setting}
@@ -115,10 +116,12 @@ tail (p ∷ ps) = ps
 abbrev pub afterPoll : ℕ → Reader → InLine → Reader
 afterPoll P r shut = r
 afterPoll P r owing = record { due = r .due; unsent = r .unsent; line = shut }
-afterPoll P r (asked a) = record { due = r .due; unsent = drop (length (portion a (r .unsent))) (r .unsent); line = remaining (tail (inPackets P (inTransfer a (r .unsent)))) }
+afterPoll P r (asked a) =
+    record { due = r .due; unsent = drop (length (portion a (r .unsent))) (r .unsent); line = remaining (tail (inPackets P (inTransfer a (r .unsent)))) }
 afterPoll P r (sending ps) = record { due = r .due; unsent = r .unsent; line = remaining (tail ps) }
 
--- "drops the whole reply": an abort of Bulk-IN and a clear, which owe the empty packet where a transfer is open; CLEAR_FEATURE on 0x82, unless a packet was owed
+-- "drops the whole reply": an abort of Bulk-IN and a clear, which owe the empty packet where a transfer is open; CLEAR_FEATURE on 0x82, unless
+-- a packet was owed
 abbrev pub owingNow : InLine → InLine
 owingNow shut = shut
 owingNow owing = owing

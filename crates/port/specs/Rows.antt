@@ -4,14 +4,20 @@ use Prim.Native.Nat.{ℕ}
 use mathlib.Core.Bool.{Bool}
 use mathlib.Core.List.{List, [], _∷_, _++_}
 use Rattle.rules.specs.Choice.{_≠ᵇ_, no, pick, _⇒_∣_, decide}
-use Rattle.rules.specs.Answers.{DONE, SUCCESS, PENDING, INTERRUPT-IN-BUSY, FAILED, TRANSFER-NOT-IN-PROGRESS, SPLIT-NOT-IN-PROGRESS, SPLIT-IN-PROGRESS, TELLS-PULSE, done}
+use Rattle.rules.specs.Answers.{DONE, SUCCESS, PENDING, INTERRUPT-IN-BUSY, FAILED, TRANSFER-NOT-IN-PROGRESS}
+use Rattle.rules.specs.Answers.{SPLIT-NOT-IN-PROGRESS, SPLIT-IN-PROGRESS, TELLS-PULSE, done}
 use Rattle.wire.specs.Bytes.{bytes4}
-use Rattle.wire.specs.Header.{D0, OFF, ON}
+use Rattle.rules.specs.Flags.{OFF, ON}
+use Rattle.wire.specs.Header.{D0}
 use Rattle.wire.specs.declared.types.Endpoint.{Endpoint}
 use Rattle.wire.specs.declared.types.Endpoint.the-variants.{Out, In, Interrupt}
 use Rattle.wire.specs.declared.types.Row.{Row}
-use Rattle.wire.specs.declared.types.Row.the-variants.{InitiateAbortBulkOut, CheckAbortBulkOutStatus, InitiateAbortBulkIn, CheckAbortBulkInStatus, InitiateClear, CheckClearStatus, GetCapabilities, IndicatorPulse, ReadStatusByte, RenControl, GoToLocal, LocalLockout, ClearFeature, SetFeature, GetStatus}
-use Rattle.port.specs.Parts.{on, isOpenOut, isOpenIn, isOwed, isNone, keepsHalt, isClear, portOf, outOf, inOf, interruptOf, closedIn, owedIn, withPort, withOut, withIn, withInterrupt, withSplit, withRemote, withRen, withInHalted, withInterruptHalted, emptyOut, emptyIn, broken, haltedOut, shut}
+use Rattle.wire.specs.declared.types.Row.the-variants.{InitiateAbortBulkOut, CheckAbortBulkOutStatus, InitiateAbortBulkIn, CheckAbortBulkInStatus}
+use Rattle.wire.specs.declared.types.Row.the-variants.{InitiateClear, CheckClearStatus, GetCapabilities, IndicatorPulse, ReadStatusByte}
+use Rattle.wire.specs.declared.types.Row.the-variants.{RenControl, GoToLocal, LocalLockout, ClearFeature, SetFeature, GetStatus}
+use Rattle.port.specs.Parts.{on, isOpenOut, isOpenIn, isOwed, isNone, keepsHalt, isClear, portOf, outOf, inOf, interruptOf}
+use Rattle.port.specs.Parts.{closedIn, owedIn, withPort, withOut, withIn, withInterrupt, withSplit, withRemote, withRen}
+use Rattle.port.specs.Parts.{withInHalted, withInterruptHalted, emptyOut, emptyIn, broken, haltedOut, shut}
 use Rattle.port.specs.Remote.{toLocal, lockedOut, withRenOn, localNow}
 use Rattle.port.specs.Answer.{Answer, Said}
 use Rattle.port.specs.Interrupt.{isWaiting, statusQueued}
@@ -22,7 +28,8 @@ use Rattle.port.specs.declared.types.Split.{Split}
 use Rattle.port.specs.declared.types.Split.the-variants.{None, AbortOut, AbortIn, Clear}
 use Rattle.port.specs.declared.types.State.{State}
 use Rattle.port.specs.declared.types.Effect.{Effect}
-use Rattle.port.specs.declared.types.Effect.the-variants.{Stays, AbortsOut, AbortsIn, Clears, EndsSplit, SetsRen, GoesToLocal, LocksOut, ClearsHalt, SetsHalt, Queues}
+use Rattle.port.specs.declared.types.Effect.the-variants.{Stays, AbortsOut, AbortsIn, Clears, EndsSplit, SetsRen}
+use Rattle.port.specs.declared.types.Effect.the-variants.{GoesToLocal, LocksOut, ClearsHalt, SetsHalt, Queues}
 
 -- what a row answers, and what it does to the state
 pub record Reaction : Type 0 where

@@ -10,7 +10,8 @@ use Rattle.rules.specs.When.{Not}
 use Rattle.wire.specs.When.{at}
 use Rattle.port.specs.Answer.{Answer}
 use Rattle.port.specs.Device.{Device, isSound, powerOn}
-use Rattle.port.specs.Step.{Quiet, in-poll, interrupt-poll, offer-reply, set-status, front-panel, bus-suspend, Call, setup-packet, out-packet, take-into, bus-reset, quiet, Stepping}
+use Rattle.port.specs.Step.{Quiet, in-poll, interrupt-poll, offer-reply, set-status, front-panel, bus-suspend}
+use Rattle.port.specs.Step.{Call, setup-packet, out-packet, take-into, bus-reset, quiet, Stepping}
 use Rattle.port.specs.Trace.{Event, trace}
 use Rattle.port.specs.declared.types.Setting.{Setting}
 

@@ -12,7 +12,8 @@ use Rattle.wire.specs.When.{fourAt, Zeros, Commands, Requests, Triggers, NotInF
 use Rattle.wire.specs.declared.types.Setup.{Setup}
 use Rattle.wire.specs.declared.types.Setup.the-variants.{Configure, Asks, NoRow}
 use Rattle.port.specs.Device.{Device, Result, isSound}
-use Rattle.port.specs.Step.{Quiet, in-poll, interrupt-poll, offer-reply, set-status, front-panel, bus-suspend, SetupPacket, Call, setup-packet, out-packet, take-into, bus-reset, quiet, Stepping}
+use Rattle.port.specs.Step.{Quiet, in-poll, interrupt-poll, offer-reply, set-status, front-panel, bus-suspend}
+use Rattle.port.specs.Step.{SetupPacket, Call, setup-packet, out-packet, take-into, bus-reset, quiet, Stepping}
 use Rattle.port.specs.declared.types.Setting.{Setting}
 use Rattle.port.specs.declared.types.BulkOut.{BulkOut}
 use Rattle.port.specs.declared.types.BulkIn.{BulkIn}

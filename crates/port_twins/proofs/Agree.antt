@@ -12,7 +12,8 @@ use borrow.Author.Tests.{ltb-false}
 use Rattle.rules.specs.Choice.{_=ᵇ_, _<ᵇ_, pick, decide}
 use Rattle.rules.specs.Answers.{DONE, only}
 use Rattle.rules.proofs.Choice.{pick-all, pick-both, decide-both, none-right}
-use Rattle.wire.specs.Header.{HEADER, ON, readHeader}
+use Rattle.rules.specs.Flags.{ON}
+use Rattle.wire.specs.Header.{HEADER, readHeader}
 use Rattle.wire.specs.Setup.{readSetup}
 use Rattle.wire.specs.declared.types.Endpoint.the-variants.{Out, In, Interrupt}
 use Rattle.wire.specs.declared.types.Header.{Header}
@@ -20,19 +21,25 @@ use Rattle.wire.specs.declared.types.Header.the-variants.{Message, Request, Tri
 use Rattle.wire.specs.declared.types.Read.{Read}
 use Rattle.wire.specs.declared.types.Read.the-variants.{Good, Fault}
 use Rattle.wire.specs.declared.types.Row.{Row}
-use Rattle.wire.specs.declared.types.Row.the-variants.{InitiateAbortBulkOut, CheckAbortBulkOutStatus, InitiateAbortBulkIn, CheckAbortBulkInStatus, InitiateClear, CheckClearStatus, GetCapabilities, IndicatorPulse, ReadStatusByte, RenControl, GoToLocal, LocalLockout, ClearFeature, SetFeature, GetStatus}
+use Rattle.wire.specs.declared.types.Row.the-variants.{InitiateAbortBulkOut, CheckAbortBulkOutStatus, InitiateAbortBulkIn, CheckAbortBulkInStatus}
+use Rattle.wire.specs.declared.types.Row.the-variants.{InitiateClear, CheckClearStatus, GetCapabilities, IndicatorPulse, ReadStatusByte}
+use Rattle.wire.specs.declared.types.Row.the-variants.{RenControl, GoToLocal, LocalLockout, ClearFeature, SetFeature, GetStatus}
 use Rattle.wire.specs.declared.types.Setup.{Setup}
 use Rattle.wire.specs.declared.types.Setup.the-variants.{Configure, Asks, NoRow}
 use Rattle.port.specs.Parts.{STORE, ASKED, on, isOpenOut, isOpenIn, isOwed, packetSize, outOf, inOf, withIn, carrying, broken, shut}
 use Rattle.port.specs.Remote.{localNow}
-use Rattle.port.specs.Answer.{Answer, Said, number, refuse}
+use Rattle.port.specs.Answer.{Answer, Said, numbered, refuse}
 use Rattle.port.specs.Out.{plain, more, headerSays, outRules, outcome, absorbed, opened, accepted, planned, outPlan}
 use Rattle.port.specs.In.{Packet, fixed, header, started, toGo, gone, send, nextPacket, inRules, sends, poll}
 use Rattle.port.specs.Interrupt.{interruptRules, interruptPoll}
-use Rattle.port.specs.Rows.{Reaction, initiateAbortOut, initiateAbortIn, checkAbortIn, clearing, initiateClear, checkClear, clearFeatureOut, clearFeatureIn, answerRow, effected, reacted}
+use Rattle.port.specs.Rows.{Reaction, initiateAbortOut, initiateAbortIn, checkAbortIn, clearing, initiateClear}
+use Rattle.port.specs.Rows.{checkClear, clearFeatureOut, clearFeatureIn, answerRow, effected, reacted}
 use Rattle.port.specs.Device.{Device, Result, heldIn, unsentIn, heldOf, unsentOf}
-use Rattle.port.specs.Calls.{said, carriedOut, bulkOut, bulkIn, interruptIn, setupRules, asked, setupOutcome, answered, setup, takeRules, released, taking, take-message, offerRules, offered, offerPlan, withReply, offer, thermostatRules, statusSet, setStatus, returned, panel, busReset, suspend}
-use Rattle.port.specs.Step.{in-poll, interrupt-poll, offer-reply, set-status, front-panel, bus-suspend, Call, setup-packet, out-packet, take-into, bus-reset, quiet, quietly, soundly, step}
+use Rattle.port.specs.Calls.{said, withMessage, bulkOut, bulkIn, interruptIn, setupRules, asked, setupOutcome, answered}
+use Rattle.port.specs.Calls.{setup, takeRules, released, taking, take-message, offerRules, offered, offerPlan, withReply}
+use Rattle.port.specs.Calls.{offer, thermostatRules, statusSet, setStatus, returned, panel, busReset, suspend}
+use Rattle.port.specs.Step.{in-poll, interrupt-poll, offer-reply, set-status, front-panel, bus-suspend, Call}
+use Rattle.port.specs.Step.{setup-packet, out-packet, take-into, bus-reset, quiet, quietly, soundly, step}
 use Rattle.port.specs.Live.{Live, atFront, live, alive}
 use Rattle.port.specs.Laws.{Stored, LiveAgrees}
 use Rattle.port.specs.declared.types.OutMessage.{OutMessage}
@@ -48,7 +55,8 @@ use Rattle.port.specs.declared.types.Outcome.the-variants.{Keep, Halt, Data, Ac
 use Rattle.port.specs.declared.types.SetupOutcome.{SetupOutcome}
 use Rattle.port.specs.declared.types.SetupOutcome.the-variants.{Denies, Renews, Answers}
 use Rattle.port.specs.declared.types.Effect.{Effect}
-use Rattle.port.specs.declared.types.Effect.the-variants.{Stays, AbortsOut, AbortsIn, Clears, EndsSplit, SetsRen, GoesToLocal, LocksOut, ClearsHalt, SetsHalt, Queues}
+use Rattle.port.specs.declared.types.Effect.the-variants.{Stays, AbortsOut, AbortsIn, Clears, EndsSplit, SetsRen}
+use Rattle.port.specs.declared.types.Effect.the-variants.{GoesToLocal, LocksOut, ClearsHalt, SetsHalt, Queues}
 use Rattle.port.proofs.Soundness.{Sound, sound-of, sound-to}
 use Rattle.port.proofs.Ways.{outcome-ways}
 use Rattle.port.proofs.KeepsOut.{out-held}
@@ -85,7 +93,8 @@ module _ (u : Device) (stored : Stored u) (h : Sound (u .state)) where
 
   broken-message : (halted : ℕ) → heldIn (broken halted (outOf (u .state))) (u .message) ≡ heldIn (broken halted (outOf (w .state))) (w .message)
   unfolding alive live broken
-  broken-message halted = same-message u stored h _ (pick-all (λ (m : OutMessage). m .held ≤ outOf (u .state) .message .held) (on (outOf (u .state) .message .ready)) _ _ (λ _. omega arith) (λ _. omega arith))
+  broken-message halted = same-message u stored h _ (pick-all (λ (m : OutMessage). m .held ≤ outOf (u .state) .message .held) (on (outOf (u .state) .message .ready)) _ _ (λ _. omega arith)
+      (λ _. omega arith))
 
   kept-both : (a : Answer) → Same (record { unit = u; answer = a }) (record { unit = w; answer = a })
   unfolding alive live
@@ -95,7 +104,7 @@ module _ (u : Device) (stored : Stored u) (h : Sound (u .state)) where
   Saids r q = Same (said u r) (said w q)
 
   behind : (rs : List (Bool × ℕ)) (r q : Said) → Saids r q → Saids (decide (refuse (u .state)) rs r) (decide (refuse (w .state)) rs q)
-  behind rs r q s = decide-both Saids (refuse (u .state)) (refuse (w .state)) rs r q (λ n. kept-both (number n)) (λ _. s)
+  behind rs r q s = decide-both Saids (refuse (u .state)) (refuse (w .state)) rs r q (λ n. kept-both (numbered n)) (λ _. s)
 
   -- ** setup packets
 
@@ -166,13 +175,14 @@ module _ (u : Device) (stored : Stored u) (h : Sound (u .state)) where
 
   setup-agrees : (s : List ℕ) (room : ℕ) → Same (setup u s room) (setup w s room)
   unfolding setup setupOutcome
-  setup-agrees s room = subst (λ (x : SetupOutcome). Same (setup u s room) (answered w (decide Denies (setupRules (length s) room) x))) (asked-alike (readSetup s)) (answer-agrees (setupOutcome (u .state) s room))
+  setup-agrees s room = subst (λ (x : SetupOutcome). Same (setup u s room) (answered w (decide Denies (setupRules (length s) room) x))) (asked-alike (readSetup s))
+      (answer-agrees (setupOutcome (u .state) s room))
 
   -- ** Bulk-OUT
 
   header-agrees : (s : List ℕ) (r : Read) → headerSays (u .state) s r ≡ headerSays (w .state) s r
   unfolding headerSays alive live
-  header-agrees s (Fault number) = refl
+  header-agrees s (Fault numbered) = refl
   header-agrees s (Good (Message tag size end)) = refl
   header-agrees s (Good (Request tag size enabled term)) = refl
   header-agrees s (Good (Trigger tag)) = refl
@@ -180,17 +190,18 @@ module _ (u : Device) (stored : Stored u) (h : Sound (u .state)) where
   outcome-agrees : (s : List ℕ) → outcome (u .state) s ≡ outcome (w .state) s
   unfolding outcome alive live
   outcome-agrees s =
-      ap (λ (z : Outcome). decide Keep (outRules (u .state) (length s)) (pick (isOpenOut (outOf (u .state))) (more (packetSize (u .state)) (outOf (u .state) .transfer .left) s) (pick (length s =ᵇ 0) (Keep DONE) z))) (header-agrees s (readHeader s))
+      ap (λ (z : Outcome). decide Keep (outRules (u .state) (length s))
+      (pick (isOpenOut (outOf (u .state))) (more (packetSize (u .state)) (outOf (u .state) .transfer .left) s) (pick (length s =ᵇ 0) (Keep DONE) z))) (header-agrees s (readHeader s))
 
   abbrev Outs : List ℕ → Outcome → Type 0
-  Outs s x = Same (carriedOut u s (planned (u .state) x)) (carriedOut w s (planned (w .state) x))
+  Outs s x = Same (withMessage u s (planned (u .state) x)) (withMessage w s (planned (w .state) x))
 
   keep-agrees : (s : List ℕ) (n : ℕ) → Outs s (Keep n)
   keep-agrees s n = along (kept u s n) (kept w s n) (kept-both _)
 
   halt-agrees : (s : List ℕ) (n : ℕ) → Outs s (Halt n)
   unfolding effected
-  halt-agrees s n = along (halted u h s n) (halted w (alive-sound u stored h) s n) (effect-agrees (number n) (SetsHalt Out))
+  halt-agrees s n = along (halted u h s n) (halted w (alive-sound u stored h) s n) (effect-agrees (numbered n) (SetsHalt Out))
 
   -- data put behind what is held, of the open transfer or of one that a header opens
   put-message : (o : BulkOut) (d : List ℕ) (count : ℕ) → o .message ≡ outOf (u .state) .message → count ≤ length d
@@ -209,7 +220,8 @@ module _ (u : Device) (stored : Stored u) (h : Sound (u .state)) where
           ∙ sym (take-paste (w .message) k d count (let a = alive-stored u stored h .message in omega arith) e))
 
   -- nothing is put
-  no-message : (d : List ℕ) → take (outOf (u .state) .message .held) (paste (u .message) (outOf (u .state) .message .held) d 0) ≡ take (outOf (w .state) .message .held) (paste (w .message) (outOf (w .state) .message .held) d 0)
+  no-message : (d : List ℕ) → take (outOf (u .state) .message .held) (paste (u .message) (outOf (u .state) .message .held) d 0) ≡ take (outOf (w .state) .message .held)
+      (paste (w .message) (outOf (w .state) .message .held) d 0)
   no-message d = rw (← paste-zero (u .message), ← paste-zero (w .message)) whole-message
 
   data-agrees : (s : List ℕ) (count : ℕ) → count ≤ length s → Outs s (Data count)
@@ -225,7 +237,7 @@ module _ (u : Device) (stored : Stored u) (h : Sound (u .state)) where
   out-agrees : (s : List ℕ) → Same (bulkOut u s) (bulkOut w s)
   unfolding bulkOut outPlan
   out-agrees s =
-      subst (λ (x : Outcome). Same (bulkOut u s) (carriedOut w s (planned (w .state) x))) (outcome-agrees s)
+      subst (λ (x : Outcome). Same (bulkOut u s) (withMessage w s (planned (w .state) x))) (outcome-agrees s)
       (outcome-ways (u .state) s (Outs s) (record {
         keeps = (λ _. keep-agrees s _, (λ _. keep-agrees s _, (λ _. keep-agrees s _, (λ _. keep-agrees s _, tt))));
         empty = λ _. keep-agrees s DONE;
@@ -251,7 +263,8 @@ module _ (u : Device) (stored : Stored u) (h : Sound (u .state)) where
   packet-agrees x t =
       let packet = take (packetSize (u .state)) (header (inOf (u .state)) x ++ take (t .left) x) in
       let rest = same-reply u stored h (length packet - length (header (inOf (u .state)) x)) in
-      pick-both (λ (b b′ : BulkIn). Saids (sends (u .state) (record { side = b; bytes = packet })) (sends (w .state) (record { side = b′; bytes = packet }))) (length packet <ᵇ packetSize (u .state)) _ _ _ _
+      pick-both (λ (b b′ : BulkIn). Saids (sends (u .state) (record { side = b; bytes = packet })) (sends (w .state) (record { side = b′; bytes = packet })))
+      (length packet <ᵇ packetSize (u .state)) _ _ _ _
       (λ _. (refl, refl, whole-message, rest))
       (λ _. (refl, refl, whole-message, rest))
 

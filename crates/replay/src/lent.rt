@@ -1,47 +1,94 @@
 // The calls that are lent a buffer, which is filled before and looked at after.
 use crate::played::Played;
+use crate::played::answered_with;
 use text_answers::answer::FILL;
-use text_answers::answer::put_told;
 use text_words::numbers::BYTES;
-use text_words::numbers::start;
-use unit::types::Told;
 use unit::types::Unit;
+ghost use mathlib.Core.Path.{_≡_};
+ghost use mathlib.Core.Bool.{true};
+ghost use Prim.Native.Nat.{_≤_};
+ghost use lib.ListN.{length};
+ghost use Rattle.port.specs.Step.{setup-of, in-poll, interrupt-poll, take-into, quiet, step};
+ghost use Rattle.text_answers.specs.Answer.{filled};
+ghost use Rattle.unit.specs.Promise.{deviceOf};
+ghost use Rattle.replay.specs.Play.{told};
+ghost use Rattle.replay.specs.Played.{Leaves};
 
-// The first n bytes of a buffer, or all where there are fewer.
-fn first_lent(buffer: &mut [u8], n: usize) -> &mut [u8] {
-    if n <= buffer.len() {
-        return &mut buffer[0..n];
-    }
-    buffer
+// ** into the first n bytes of a buffer that is filled
+
+fn setup_into(
+    unit: Unit,
+    packet: &[u8],
+    buffer: &mut [u8],
+    n: usize,
+    out: &mut [u8],
+    at: usize,
+) -> Played
+    requires { ⌜ (n ≤ length (now buffer)) × (filled (now buffer) ≡ true) ⌝ }
+    ensures { λ r. ⌜ Leaves (told (step (deviceOf unit) (setup-of (now (packet .entry)) n))) (now (out .entry), at) (now (out .exit)) r ⌝ }
+{
+    let lent = &mut buffer[..n];
+    let told = unit.setup(packet, lent);
+    answered_with(told, lent, out, at)
 }
 
-fn answered(told: Told, buffer: &[u8], out: &mut [u8], at: usize) -> Played {
-    let unit = told.unit;
-    let verdict = told.verdict;
-    let end = put_told(out, at, verdict, told.len, buffer);
-    Played { unit, at: end }
+fn in_into(unit: Unit, buffer: &mut [u8], n: usize, out: &mut [u8], at: usize) -> Played
+    requires { ⌜ (n ≤ length (now buffer)) × (filled (now buffer) ≡ true) ⌝ }
+    ensures { λ r. ⌜ Leaves (told (step (deviceOf unit) (quiet (in-poll n)))) (now (out .entry), at) (now (out .exit)) r ⌝ }
+{
+    let lent = &mut buffer[..n];
+    let told = unit.bulk_in(lent);
+    answered_with(told, lent, out, at)
 }
 
-pub fn lend_setup(unit: Unit, packet: &[u8], n: usize, out: &mut [u8], at: usize) -> Played {
+fn interrupt_into(unit: Unit, buffer: &mut [u8], n: usize, out: &mut [u8], at: usize) -> Played
+    requires { ⌜ (n ≤ length (now buffer)) × (filled (now buffer) ≡ true) ⌝ }
+    ensures { λ r. ⌜ Leaves (told (step (deviceOf unit) (quiet (interrupt-poll n)))) (now (out .entry), at) (now (out .exit)) r ⌝ }
+{
+    let lent = &mut buffer[..n];
+    let told = unit.interrupt_in(lent);
+    answered_with(told, lent, out, at)
+}
+
+fn message_into(unit: Unit, buffer: &mut [u8], n: usize, out: &mut [u8], at: usize) -> Played
+    requires { ⌜ (n ≤ length (now buffer)) × (filled (now buffer) ≡ true) ⌝ }
+    ensures { λ r. ⌜ Leaves (told (step (deviceOf unit) (take-into n))) (now (out .entry), at) (now (out .exit)) r ⌝ }
+{
+    let lent = &mut buffer[..n];
+    let told = unit.take(lent);
+    answered_with(told, lent, out, at)
+}
+
+// ** into a buffer of n bytes
+
+pub fn lend_setup(unit: Unit, packet: &[u8], n: usize, out: &mut [u8], at: usize) -> Played
+    requires { ⌜ n ≤ 2048 ⌝ }
+    ensures { λ r. ⌜ Leaves (told (step (deviceOf unit) (setup-of (now (packet .entry)) n))) (now (out .entry), at) (now (out .exit)) r ⌝ }
+{
     let mut buffer = [FILL; BYTES];
-    let told = unit.setup(packet, first_lent(&mut buffer, n));
-    answered(told, start(&buffer, n), out, at)
+    setup_into(unit, packet, &mut buffer, n, out, at)
 }
 
-pub fn lend_in(unit: Unit, n: usize, out: &mut [u8], at: usize) -> Played {
+pub fn lend_in(unit: Unit, n: usize, out: &mut [u8], at: usize) -> Played
+    requires { ⌜ n ≤ 2048 ⌝ }
+    ensures { λ r. ⌜ Leaves (told (step (deviceOf unit) (quiet (in-poll n)))) (now (out .entry), at) (now (out .exit)) r ⌝ }
+{
     let mut buffer = [FILL; BYTES];
-    let told = unit.bulk_in(first_lent(&mut buffer, n));
-    answered(told, start(&buffer, n), out, at)
+    in_into(unit, &mut buffer, n, out, at)
 }
 
-pub fn lend_interrupt(unit: Unit, n: usize, out: &mut [u8], at: usize) -> Played {
+pub fn lend_interrupt(unit: Unit, n: usize, out: &mut [u8], at: usize) -> Played
+    requires { ⌜ n ≤ 2048 ⌝ }
+    ensures { λ r. ⌜ Leaves (told (step (deviceOf unit) (quiet (interrupt-poll n)))) (now (out .entry), at) (now (out .exit)) r ⌝ }
+{
     let mut buffer = [FILL; BYTES];
-    let told = unit.interrupt_in(first_lent(&mut buffer, n));
-    answered(told, start(&buffer, n), out, at)
+    interrupt_into(unit, &mut buffer, n, out, at)
 }
 
-pub fn lend_take(unit: Unit, n: usize, out: &mut [u8], at: usize) -> Played {
+pub fn lend_take(unit: Unit, n: usize, out: &mut [u8], at: usize) -> Played
+    requires { ⌜ n ≤ 2048 ⌝ }
+    ensures { λ r. ⌜ Leaves (told (step (deviceOf unit) (take-into n))) (now (out .entry), at) (now (out .exit)) r ⌝ }
+{
     let mut buffer = [FILL; BYTES];
-    let told = unit.take(first_lent(&mut buffer, n));
-    answered(told, start(&buffer, n), out, at)
+    message_into(unit, &mut buffer, n, out, at)
 }

@@ -1,30 +1,34 @@
-// One line: the call that it asks for, carried out, and its answer.
-use crate::carried::answered;
-use crate::carried::more;
-use crate::carried::offer;
-use crate::carried::overview;
-use crate::carried::packet_in;
-use crate::carried::packet_interrupt;
-use crate::carried::packet_out;
-use crate::carried::power;
-use crate::carried::setup;
-use crate::carried::status;
-use crate::carried::take;
+// One line: what it asks for, carried out and answered.
+use crate::calls::more;
+use crate::calls::offer;
+use crate::calls::overview;
+use crate::calls::packet_in;
+use crate::calls::packet_interrupt;
+use crate::calls::packet_out;
+use crate::calls::power;
+use crate::calls::setup;
+use crate::calls::status;
+use crate::calls::take;
 use crate::played::Played;
+use crate::played::answered;
+use text_answers::wrong::too_few_words;
+use text_answers::wrong::too_long;
+use text_answers::wrong::too_many_words;
+use text_answers::wrong::unknown_name;
 use text_lines::asked::Asked;
 use text_lines::asked::read_line;
 use text_lines::names::Name;
 use text_words::words::part;
 use unit::types::Unit;
+ghost use Rattle.text_lines.specs.Lines.{row};
+ghost use Rattle.unit.specs.Promise.{deviceOf};
+ghost use Rattle.replay.specs.Play.{leaves, played};
+ghost use Rattle.replay.specs.Played.{Leaves};
 
-fn carried_out(
-    unit: Unit,
-    name: Name,
-    first: &[u8],
-    second: &[u8],
-    out: &mut [u8],
-    at: usize,
-) -> Played {
+// A call with the first two words behind its name.
+fn called(unit: Unit, name: Name, first: &[u8], second: &[u8], out: &mut [u8], at: usize) -> Played
+    ensures { λ r. ⌜ Leaves (leaves (deviceOf unit) (row name .says (now (first .entry)) (now (second .entry)))) (now (out .entry), at) (now (out .exit)) r ⌝ }
+{
     match name {
         Name::Power => power(unit, first, out, at),
         Name::Setup => setup(unit, first, second, out, at),
@@ -39,20 +43,37 @@ fn carried_out(
         Name::Suspend => answered(unit.suspend(), out, at),
         Name::State => overview(unit, out, at),
         Name::More => more(unit, out, at),
-        Name::Unknown => Played { unit, at },
     }
 }
 
 // A line is played: its answer goes into `out` at `at`.
-pub fn play(unit: Unit, line: &[u8], out: &mut [u8], at: usize) -> Played {
-    let asked = read_line(line, out, at);
+pub fn play(unit: Unit, line: &[u8], out: &mut [u8], at: usize) -> Played
+    ensures { λ r. ⌜ Leaves (played (deviceOf unit) (now (line .entry))) (now (out .entry), at) (now (out .exit)) r ⌝ }
+{
+    let asked = read_line(line);
     match asked {
-        Asked::Answered(end) => Played { unit, at: end },
         Asked::For(call) => {
             let name = call.name;
             let first = call.first;
             let second = call.second;
-            carried_out(unit, name, part(line, first), part(line, second), out, at)
+            called(unit, name, part(line, first), part(line, second), out, at)
+        }
+        Asked::Nothing => Played { unit, at },
+        Asked::TooLong => {
+            let end = too_long(out, at);
+            Played { unit, at: end }
+        }
+        Asked::NoCall(word) => {
+            let end = unknown_name(out, at, part(line, word));
+            Played { unit, at: end }
+        }
+        Asked::TooFew(word) => {
+            let end = too_few_words(out, at, part(line, word));
+            Played { unit, at: end }
+        }
+        Asked::TooMany(word) => {
+            let end = too_many_words(out, at, part(line, word));
+            Played { unit, at: end }
         }
     }
 }

@@ -1,9 +1,10 @@
 // Plays calls: reads one a line from standard input, and writes one line for each to standard output.
-mod carried; // each call with its words
+mod calls; // each call with its words
 mod feed; // the lines in what was read
 mod lent; // the calls that are lent a buffer
 mod line; // one line
 mod played; // what playing a line leaves
+mod unread; // the answer to a word that cannot be read
 
 use feed::Feed;
 use feed::ended;

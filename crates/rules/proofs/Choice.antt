@@ -151,7 +151,30 @@ unfolding pick
 pick-self k true e = e
 pick-self k false e = e
 
-pub ruleset tests = (ne-neb, eq-neb, eq-eqb, ne-eqb, lt-ltb, le-ltb, le-leb, lt-leb, no-true, no-false, or-none, or-left, or-right, and-both, and-left, and-right, told-eq, told-ne, told-lt, told-ge, told-true, told-false)
+pub ruleset tests = (
+  ne-neb,
+  eq-neb,
+  eq-eqb,
+  ne-eqb,
+  lt-ltb,
+  le-ltb,
+  le-leb,
+  lt-leb,
+  no-true,
+  no-false,
+  or-none,
+  or-left,
+  or-right,
+  and-both,
+  and-left,
+  and-right,
+  told-eq,
+  told-ne,
+  told-lt,
+  told-ge,
+  told-true,
+  told-false,
+)
 
 pub ruleset picks = (pick-self, by-key, pick-true, pick-false, tests)
 

@@ -9,7 +9,8 @@ use Rattle.rules.specs.Answers.{SUCCESS, PENDING, SPLIT-NOT-IN-PROGRESS, SPLIT-
 use Rattle.rules.proofs.Choice.{no-true, no-false, pick-true, pick-false, refuses, passes}
 use Rattle.wire.specs.Header.{D0}
 use Rattle.port.specs.Parts.{isOpenOut, isOpenIn, isOwed, isClear, outOf, inOf}
-use Rattle.port.specs.Rows.{answering, reacts, abortRules, outTag, inTag, initiateAbortOut, initiateAbortIn, abortStatus, abortEnds, checkAbortIn, initiateClear, checkClear}
+use Rattle.port.specs.Rows.{answering, reacts, abortRules, outTag, inTag, initiateAbortOut, initiateAbortIn}
+use Rattle.port.specs.Rows.{abortStatus, abortEnds, checkAbortIn, initiateClear, checkClear}
 use Rattle.port.specs.declared.types.BulkIn.{BulkIn}
 use Rattle.port.specs.declared.types.Effect.the-variants.{AbortsOut, AbortsIn, Clears, EndsSplit}
 use Rattle.port.specs.declared.types.Split.{Split}

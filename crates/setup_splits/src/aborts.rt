@@ -1,6 +1,6 @@
 // The aborts of both sides: INITIATE_ABORT and CHECK_ABORT.
-use crate::says::says_2;
-use crate::says::says_abort;
+use crate::reacts::reacts_2;
+use crate::reacts::reacts_abort;
 use crate::types::Control;
 use port::types::BulkIn;
 use port::types::CLOSED;
@@ -46,9 +46,9 @@ pub fn initiate_abort_out(st: State, tag: u8) -> Control
     let split = st.split;
     let status = abort_gate(split, is_open_out(o), o.recent, tag);
     if status != 0 {
-        return says_2(Effect::Stays, status, o.recent);
+        return reacts_2(Effect::Stays, status, o.recent);
     }
-    says_2(Effect::AbortsOut, SUCCESS, o.recent)
+    reacts_2(Effect::AbortsOut, SUCCESS, o.recent)
 }
 
 // The open transfer's tag, else the most recent one.
@@ -69,22 +69,22 @@ pub fn initiate_abort_in(st: State, tag: u8) -> Control
     let own = in_tag(b);
     let status = abort_gate(split, is_open_in(b), own, tag);
     if status != 0 {
-        return says_2(Effect::Stays, status, own);
+        return reacts_2(Effect::Stays, status, own);
     }
-    says_2(Effect::AbortsIn, SUCCESS, own)
+    reacts_2(Effect::AbortsIn, SUCCESS, own)
 }
 
 fn wrong_split() -> Control
     ensures { λ r. ⌜ r ≡ controlOf wrongSplit ⌝ }
 {
-    says_abort(Effect::Stays, SPLIT_NOT_IN_PROGRESS, 0, 0)
+    reacts_abort(Effect::Stays, SPLIT_NOT_IN_PROGRESS, 0, 0)
 }
 
 // The split ends, with its count.
 fn abort_ends(count: u16) -> Control
     ensures { λ r. ⌜ r ≡ controlOf (abortEnds count) ⌝ }
 {
-    says_abort(Effect::EndsSplit, SUCCESS, 0, count)
+    reacts_abort(Effect::EndsSplit, SUCCESS, 0, count)
 }
 
 pub fn check_abort_out(split: Split) -> Control
@@ -103,7 +103,7 @@ fn abort_in_status(b: BulkIn, count: u16) -> Control
     ensures { λ r. ⌜ r ≡ controlOf (checkAbortIn b (Split.AbortIn count)) ⌝ }
 {
     if b.transfer.phase == OWED {
-        return says_abort(Effect::Stays, PENDING, 1, 0);
+        return reacts_abort(Effect::Stays, PENDING, 1, 0);
     }
     abort_ends(count)
 }

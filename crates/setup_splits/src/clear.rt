@@ -1,6 +1,6 @@
 // INITIATE_CLEAR and CHECK_CLEAR_STATUS.
-use crate::says::says_1;
-use crate::says::says_2;
+use crate::reacts::reacts_1;
+use crate::reacts::reacts_2;
 use crate::types::Control;
 use port::types::BulkIn;
 use port::types::Effect;
@@ -20,9 +20,9 @@ pub fn initiate_clear(split: Split) -> Control
     ensures { λ r. ⌜ r ≡ controlOf (initiateClear split) ⌝ }
 {
     if is_clear(split) {
-        return says_1(Effect::Stays, SPLIT_IN_PROGRESS);
+        return reacts_1(Effect::Stays, SPLIT_IN_PROGRESS);
     }
-    says_1(Effect::Clears, SUCCESS)
+    reacts_1(Effect::Clears, SUCCESS)
 }
 
 pub fn check_clear(b: BulkIn, split: Split) -> Control
@@ -30,9 +30,9 @@ pub fn check_clear(b: BulkIn, split: Split) -> Control
 {
     if is_clear(split) {
         if b.transfer.phase == OWED {
-            return says_2(Effect::Stays, PENDING, 1);
+            return reacts_2(Effect::Stays, PENDING, 1);
         }
-        return says_2(Effect::EndsSplit, SUCCESS, 0);
+        return reacts_2(Effect::EndsSplit, SUCCESS, 0);
     }
-    says_2(Effect::Stays, SPLIT_NOT_IN_PROGRESS, 0)
+    reacts_2(Effect::Stays, SPLIT_NOT_IN_PROGRESS, 0)
 }

@@ -12,13 +12,16 @@ use Rattle.rules.proofs.Choice.{neb-eq, none-left, none-right, none-of, pick-al
 use Rattle.wire.specs.Bytes.{bytes4, into}
 use Rattle.wire.specs.Setup.{SETUP, CONTROL, readSetup}
 use Rattle.wire.specs.declared.types.Row.{Row}
-use Rattle.wire.specs.declared.types.Row.the-variants.{InitiateAbortBulkOut, CheckAbortBulkOutStatus, InitiateAbortBulkIn, CheckAbortBulkInStatus, InitiateClear, CheckClearStatus, GetCapabilities, IndicatorPulse, ReadStatusByte, RenControl, GoToLocal, LocalLockout, ClearFeature, SetFeature, GetStatus}
+use Rattle.wire.specs.declared.types.Row.the-variants.{InitiateAbortBulkOut, CheckAbortBulkOutStatus, InitiateAbortBulkIn, CheckAbortBulkInStatus}
+use Rattle.wire.specs.declared.types.Row.the-variants.{InitiateClear, CheckClearStatus, GetCapabilities, IndicatorPulse, ReadStatusByte}
+use Rattle.wire.specs.declared.types.Row.the-variants.{RenControl, GoToLocal, LocalLockout, ClearFeature, SetFeature, GetStatus}
 use Rattle.wire.specs.declared.types.Setup.{Setup}
 use Rattle.wire.specs.declared.types.Setup.the-variants.{Configure, Asks, NoRow}
 use Rattle.wire.proofs.Fronts.{front-pasted}
 use Rattle.port.specs.Parts.{isOpenOut, isOpenIn, isOwed, isClear, outOf, inOf, interruptOf, isConfigured}
 use Rattle.port.specs.Interrupt.{isWaiting}
-use Rattle.port.specs.Rows.{Reaction, answering, abortRules, outTag, inTag, initiateAbortOut, initiateAbortIn, checkAbortOut, checkAbortIn, initiateClear, checkClear, readStatus, answerRow}
+use Rattle.port.specs.Rows.{Reaction, answering, abortRules, outTag, inTag, initiateAbortOut, initiateAbortIn}
+use Rattle.port.specs.Rows.{checkAbortOut, checkAbortIn, initiateClear, checkClear, readStatus, answerRow}
 use Rattle.port.specs.Calls.{setupRules, asked, setupOutcome}
 use Rattle.port.specs.declared.types.Split.{Split}
 use Rattle.port.specs.declared.types.Split.the-variants.{None, AbortOut, AbortIn, Clear}
@@ -49,10 +52,12 @@ module _ (st : State) where
   pub row-short : (row : Row) → Short (answerRow st row)
   unfolding answerRow initiateAbortOut initiateAbortIn initiateClear checkClear readStatus
   row-short (InitiateAbortBulkOut tag) =
-      decide-all Short (λ (status : ℕ). answering (status ∷ outTag (outOf st) ∷ [])) (abortRules (st .split) (isOpenOut (outOf st)) (outTag (outOf st)) tag) _ (omega arith, (omega arith, (omega arith, tt))) (λ _. omega arith)
+      decide-all Short (λ (status : ℕ). answering (status ∷ outTag (outOf st) ∷ [])) (abortRules (st .split) (isOpenOut (outOf st)) (outTag (outOf st)) tag) _
+      (omega arith, (omega arith, (omega arith, tt))) (λ _. omega arith)
   row-short CheckAbortBulkOutStatus = check-out-short (st .split)
   row-short (InitiateAbortBulkIn tag) =
-      decide-all Short (λ (status : ℕ). answering (status ∷ inTag (inOf st) ∷ [])) (abortRules (st .split) (isOpenIn (inOf st)) (inTag (inOf st)) tag) _ (omega arith, (omega arith, (omega arith, tt))) (λ _. omega arith)
+      decide-all Short (λ (status : ℕ). answering (status ∷ inTag (inOf st) ∷ [])) (abortRules (st .split) (isOpenIn (inOf st)) (inTag (inOf st)) tag) _
+      (omega arith, (omega arith, (omega arith, tt))) (λ _. omega arith)
   row-short CheckAbortBulkInStatus = check-in-short (st .split)
   row-short InitiateClear = pick-all Short (isClear (st .split)) _ _ (λ _. omega arith) (λ _. omega arith)
   row-short CheckClearStatus = pick-all Short _ _ _ (λ _. omega arith) (λ _. pick-all Short (isOwed (inOf st)) _ _ (λ _. omega arith) (λ _. omega arith))

@@ -4,7 +4,7 @@ use mathlib.Core.Path.{_≡_, refl, ap, sym}
 use mathlib.Core.Bool.{true, false}
 use Prim.Native.Nat.{ℕ}
 use Rattle.rules.proofs.Choice.{at-true, at-false, pick-true, pick-false}
-use Rattle.wire.specs.Header.{OFF}
+use Rattle.rules.specs.Flags.{OFF}
 use Rattle.port.specs.Parts.{isOpenIn, isOwed, keepsHalt, closedIn, emptyIn, withInHalted, broken, shut}
 use Rattle.port.specs.Rows.{clearFeatureOut, clearFeatureIn}
 use Rattle.port.specs.declared.types.BulkIn.{BulkIn}

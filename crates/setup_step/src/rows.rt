@@ -14,10 +14,10 @@ use setup_splits::aborts::initiate_abort_in;
 use setup_splits::aborts::initiate_abort_out;
 use setup_splits::clear::check_clear;
 use setup_splits::clear::initiate_clear;
-use setup_splits::says::says_0;
-use setup_splits::says::says_1;
-use setup_splits::says::says_2;
-use setup_splits::says::says_3;
+use setup_splits::reacts::reacts_0;
+use setup_splits::reacts::reacts_1;
+use setup_splits::reacts::reacts_2;
+use setup_splits::reacts::reacts_3;
 use setup_splits::types::Control;
 use state_sound::sound::is_waiting;
 use wire::types::Endpoint;
@@ -80,9 +80,9 @@ fn read_status(i: InterruptIn, tag: u8) -> Control
     ensures { λ r. ⌜ r ≡ controlOf (readStatus i tag) ⌝ }
 {
     if is_waiting(i) {
-        return says_3(Effect::Stays, INTERRUPT_IN_BUSY, tag, 0);
+        return reacts_3(Effect::Stays, INTERRUPT_IN_BUSY, tag, 0);
     }
-    says_3(Effect::Queues { tag }, SUCCESS, tag, 0)
+    reacts_3(Effect::Queues { tag }, SUCCESS, tag, 0)
 }
 
 pub fn answer_row(st: State, row: Row) -> Control
@@ -101,11 +101,11 @@ pub fn answer_row(st: State, row: Row) -> Control
         Row::GetCapabilities => get_capabilities(),
         Row::IndicatorPulse => indicator_pulse(st),
         Row::ReadStatusByte { tag } => read_status(i, tag),
-        Row::RenControl { on } => says_1(Effect::SetsRen { on }, SUCCESS),
-        Row::GoToLocal => says_1(Effect::GoesToLocal, SUCCESS),
-        Row::LocalLockout => says_1(Effect::LocksOut, SUCCESS),
-        Row::ClearFeature { endpoint } => says_0(Effect::ClearsHalt { endpoint }),
-        Row::SetFeature { endpoint } => says_0(Effect::SetsHalt { endpoint }),
-        Row::GetStatus { endpoint } => says_2(Effect::Stays, halt(st, endpoint), 0),
+        Row::RenControl { on } => reacts_1(Effect::SetsRen { on }, SUCCESS),
+        Row::GoToLocal => reacts_1(Effect::GoesToLocal, SUCCESS),
+        Row::LocalLockout => reacts_1(Effect::LocksOut, SUCCESS),
+        Row::ClearFeature { endpoint } => reacts_0(Effect::ClearsHalt { endpoint }),
+        Row::SetFeature { endpoint } => reacts_0(Effect::SetsHalt { endpoint }),
+        Row::GetStatus { endpoint } => reacts_2(Effect::Stays, halt(st, endpoint), 0),
     }
 }

@@ -11,26 +11,25 @@ use rules::UNSOUND;
 use rules::WRONG_SIZE;
 use setup_read::setup::read_setup;
 use state_sound::sound::sound;
+use wire::types::CONTROL;
 use wire::types::Row;
+use wire::types::SETUP;
 use wire::types::Setup;
 use wire_code::copies::copy_in;
 ghost use mathlib.Core.Path.{_≡_};
 ghost use Prim.Native.Nat.{ℕ, _≤_};
 ghost use lib.ListN.{length};
 ghost use Rattle.rules.specs.Choice.{pick, first};
+ghost use Rattle.rules.specs.Answers.{UNSOUND};
 ghost use Rattle.wire.specs.Bytes.{into};
+ghost use Rattle.wire.specs.Setup.{CONTROL};
 ghost use Rattle.port.specs.Sound.{sound};
 ghost use Rattle.port.specs.Rows.{answerRow, reacted};
 ghost use Rattle.port.specs.Given.{Hands};
 ghost use Rattle.port.specs.Calls.{setupRules, asked, setupOutcome};
 ghost use Rattle.setup_step.specs.Replied.{repliedOf};
 
-// The lengths of a setup packet, and of the longest answer.
-const SETUP: usize = 8;
-
-const CONTROL: usize = 24;
-
-// 3 where the packet has not n = 8 bytes or the control buffer too few, or 0.
+// 3 where the packet has not n = SETUP bytes or the control buffer too few, or 0.
 fn setup_gate(n: usize, room: usize) -> u8
     ensures { λ r. ⌜ r ≡ first (setupRules n room) 0 ⌝ }
 {
@@ -72,7 +71,7 @@ pub fn setup_outcome(st: State, s: &[u8], room: usize) -> SetupOutcome
 
 // And on any.
 pub fn decided(st: State, s: &[u8], room: usize) -> SetupOutcome
-    ensures { λ r. ⌜ r ≡ pick (sound st) (setupOutcome st (now (s .entry)) room) (SetupOutcome.Denies 1) ⌝ }
+    ensures { λ r. ⌜ r ≡ pick (sound st) (setupOutcome st (now (s .entry)) room) (SetupOutcome.Denies UNSOUND) ⌝ }
 {
     if sound(st) {
         return setup_outcome(st, s, room);
@@ -82,7 +81,7 @@ pub fn decided(st: State, s: &[u8], room: usize) -> SetupOutcome
 
 // A row is answered: its bytes go into the lent buffer.
 pub fn reply(st: State, row: Row, b: &mut [u8]) -> Replied
-    requires { ⌜ 24 ≤ length (now b) ⌝ }
+    requires { ⌜ CONTROL ≤ length (now b) ⌝ }
     ensures { λ r. ⌜ (r ≡ repliedOf (answerRow st row)) × (now (b .exit) ≡ into (answerRow st row .answer .bytes) (now (b .entry))) ⌝ }
 {
     let answer = answer_row(st, row);
@@ -100,7 +99,7 @@ pub fn reply(st: State, row: Row, b: &mut [u8]) -> Replied
 
 // And does what it does.
 pub fn row_step(st: State, row: Row, b: &mut [u8]) -> Given
-    requires { ⌜ 24 ≤ length (now b) ⌝ }
+    requires { ⌜ CONTROL ≤ length (now b) ⌝ }
     ensures { λ r. ⌜ Hands (reacted st (answerRow st row)) r (now (b .entry)) (now (b .exit)) ⌝ }
 {
     let r = reply(st, row, b);

@@ -19,8 +19,10 @@ use port::types::Split;
 use port::types::State;
 ghost use mathlib.Core.Path.{_≡_};
 ghost use Prim.Native.Nat.{ℕ};
-ghost use Rattle.port.specs.Parts.{isNone, isClear, keepsHalt, isOpenOut, isOpenIn, withPort, withOut, withIn, withInterrupt, withSplit, withRemote, withRen, holding, carrying, withInHalted, withStatus, withWaiting, withInterruptHalted};
-ghost use Rattle.port.specs.Parts.{noMessage, closedOut, noReply, transferIn, closedIn, askedIn, sendingIn, owedIn, emptyOut, emptyIn, noPacket, fresh, unbroken, broken, shut};
+ghost use Rattle.port.specs.Parts.{isNone, isClear, keepsHalt, isOpenOut, isOpenIn, withPort, withOut, withIn, withInterrupt, withSplit};
+ghost use Rattle.port.specs.Parts.{withRemote, withRen, holding, carrying, withInHalted, withStatus, withWaiting, withInterruptHalted};
+ghost use Rattle.port.specs.Parts.{noMessage, closedOut, noReply, transferIn, closedIn, askedIn, sendingIn};
+ghost use Rattle.port.specs.Parts.{owedIn, emptyOut, emptyIn, noPacket, fresh, unbroken, broken, shut};
 
 // The small parts set, the split and the remote/local state kept.
 fn with_small(st: State, small: Small) -> State

@@ -20,7 +20,8 @@ ghost use mathlib.Core.Path.{_≡_};
 ghost use Prim.Native.Nat.{ℕ};
 ghost use Rattle.port.specs.Parts.{isSize};
 ghost use Rattle.port.specs.Interrupt.{asksService, isWaiting};
-ghost use Rattle.port.specs.Sound.{portSound, openSound, heldSound, restingSound, outSound, unasked, unsending, idle, askedSound, sendingSound, phaseSound, inSound, packetSound, waitingSound, silentSound, interruptSound, clearSound, notOwed, abortOutSound, splitSound, sound};
+ghost use Rattle.port.specs.Sound.{portSound, openSound, heldSound, restingSound, outSound, unasked, unsending, idle, askedSound, sendingSound, phaseSound};
+ghost use Rattle.port.specs.Sound.{inSound, packetSound, waitingSound, silentSound, interruptSound, clearSound, notOwed, abortOutSound, splitSound, sound};
 
 // A packet size of 64 or 512.
 pub fn is_size(p: u16) -> bool

@@ -1,10 +1,5 @@
 // The answers to `state` and `more`: the parts of a unit, each on one line.
-use port::types::BulkIn;
-use port::types::BulkOut;
-use port::types::InterruptIn;
-use port::types::Notify;
 use port::types::OWED;
-use port::types::Port;
 use port::types::Remote;
 use port::types::Small;
 use port::types::Split;
@@ -12,25 +7,36 @@ use text_put::put;
 use text_put::put_byte;
 use text_put::put_decimal;
 use text_put::put_pair;
+ghost use mathlib.Core.Path.{_≡_};
+ghost use Rattle.text_put.specs.Text.{typed};
+ghost use Rattle.text_answers.specs.Overview.{flagText, haltedText, remoteText, splitText};
+ghost use Rattle.text_answers.specs.Overview.{portText, haltsText, messageText, replyText, tagsText, overviewText};
+ghost use Rattle.text_answers.specs.Overview.{notifyText, moreText};
 
 // 0 or 1.
-fn put_flag(out: &mut [u8], at: usize, is_set: bool) -> usize {
-    if is_set {
+fn put_flag(out: &mut [u8], at: usize, flag: bool) -> usize
+    ensures { λ r. ⌜ (now (out .exit), r) ≡ typed (now (out .entry), at) (flagText flag) ⌝ }
+{
+    if flag {
         return put_byte(out, at, b'1');
     }
     put_byte(out, at, b'0')
 }
 
-fn put_remote(out: &mut [u8], at: usize, remote: Remote) -> usize {
+fn remote_name(remote: Remote) -> [u8; 4]
+    ensures { λ r. ⌜ r ≡ remoteText remote ⌝ }
+{
     match remote {
-        Remote::Locs => put(out, at, b" remote=LOCS"),
-        Remote::Rems => put(out, at, b" remote=REMS"),
-        Remote::Lwls => put(out, at, b" remote=LWLS"),
-        Remote::Rwls => put(out, at, b" remote=RWLS"),
+        Remote::Locs => *b"LOCS",
+        Remote::Rems => *b"REMS",
+        Remote::Lwls => *b"LWLS",
+        Remote::Rwls => *b"RWLS",
     }
 }
 
-fn put_split(out: &mut [u8], at: usize, split: Split) -> usize {
+fn put_split(out: &mut [u8], at: usize, split: Split) -> usize
+    ensures { λ r. ⌜ (now (out .exit), r) ≡ typed (now (out .entry), at) (splitText split) ⌝ }
+{
     match split {
         Split::None => put(out, at, b" split=none"),
         Split::AbortOut { count: _ } => put(out, at, b" split=abort-out"),
@@ -39,7 +45,9 @@ fn put_split(out: &mut [u8], at: usize, split: Split) -> usize {
     }
 }
 
-fn put_halted(out: &mut [u8], at: usize, halted: u8) -> usize {
+fn put_halted(out: &mut [u8], at: usize, halted: u8) -> usize
+    ensures { λ r. ⌜ (now (out .exit), r) ≡ typed (now (out .entry), at) (haltedText halted) ⌝ }
+{
     if halted == 1 {
         return put(out, at, b"halted");
     }
@@ -47,9 +55,10 @@ fn put_halted(out: &mut [u8], at: usize, halted: u8) -> usize {
 }
 
 // The message that Bulk-OUT brings: whole, a part of one, or none.
-fn put_message(out: &mut [u8], at: usize, bulkout: BulkOut) -> usize {
-    let held = bulkout.message.held;
-    if bulkout.message.ready == 1 {
+fn put_message(out: &mut [u8], at: usize, ready: u8, held: u16, left: u16) -> usize
+    ensures { λ r. ⌜ (now (out .exit), r) ≡ typed (now (out .entry), at) (messageText ready held left) ⌝ }
+{
+    if ready == 1 {
         let next = put(out, at, b" message=ready:");
         return put_decimal(out, next, held);
     }
@@ -57,84 +66,109 @@ fn put_message(out: &mut [u8], at: usize, bulkout: BulkOut) -> usize {
         let next = put(out, at, b" message=part:");
         return put_decimal(out, next, held);
     }
-    if bulkout.transfer.left != 0 {
+    if left != 0 {
         return put(out, at, b" message=part:0");
     }
     put(out, at, b" message=none")
 }
 
-fn put_port(out: &mut [u8], at: usize, port: Port, remote: Remote, status: u8) -> usize {
+fn put_port(out: &mut [u8], at: usize, configured: u8, ren: u8, remote: Remote, status: u8) -> usize
+    ensures { λ r. ⌜ (now (out .exit), r) ≡ typed (now (out .entry), at) (portText configured ren remote status) ⌝ }
+{
+    let name = remote_name(remote);
     let at = put(out, at, b"0 configured=");
-    let at = put_flag(out, at, port.configured == 1);
+    let at = put_flag(out, at, configured == 1);
     let at = put(out, at, b" ren=");
-    let at = put_flag(out, at, port.ren == 1);
-    let at = put_remote(out, at, remote);
+    let at = put_flag(out, at, ren == 1);
+    let at = put(out, at, b" remote=");
+    let at = put(out, at, &name);
     let at = put(out, at, b" status=");
     put_pair(out, at, status)
 }
 
-fn put_halts(out: &mut [u8], at: usize, bulkout: BulkOut, bulkin: BulkIn) -> usize {
+fn put_halts(out: &mut [u8], at: usize, halted_out: u8, halted_in: u8) -> usize
+    ensures { λ r. ⌜ (now (out .exit), r) ≡ typed (now (out .entry), at) (haltsText «halted_out» «halted_in») ⌝ }
+{
     let at = put(out, at, b" out=");
-    let at = put_halted(out, at, bulkout.halted);
+    let at = put_halted(out, at, halted_out);
     let at = put(out, at, b" in=");
-    put_halted(out, at, bulkin.halted)
+    put_halted(out, at, halted_in)
 }
 
-fn put_tags(out: &mut [u8], at: usize, bulkout: BulkOut, bulkin: BulkIn) -> usize {
+fn put_tags(out: &mut [u8], at: usize, recent_out: u8, recent_in: u8) -> usize
+    ensures { λ r. ⌜ (now (out .exit), r) ≡ typed (now (out .entry), at) (tagsText «recent_out» «recent_in») ⌝ }
+{
     let at = put(out, at, b" tags=");
-    let at = put_pair(out, at, bulkout.recent);
+    let at = put_pair(out, at, recent_out);
     let at = put_byte(out, at, b',');
-    put_pair(out, at, bulkin.recent)
+    put_pair(out, at, recent_in)
 }
 
-// The reply that Bulk-IN sends, and the split in progress.
-fn put_reply(out: &mut [u8], at: usize, bulkin: BulkIn, split: Split) -> usize {
+// The bytes of the reply that have not gone, the split in progress, and whether the empty packet is owed.
+fn put_reply(out: &mut [u8], at: usize, unsent: u16, split: Split, owed: bool) -> usize
+    ensures { λ r. ⌜ (now (out .exit), r) ≡ typed (now (out .entry), at) (replyText unsent split owed) ⌝ }
+{
     let at = put(out, at, b" reply=");
-    let at = put_decimal(out, at, bulkin.reply.unsent);
+    let at = put_decimal(out, at, unsent);
     let at = put_split(out, at, split);
     let at = put(out, at, b" owed=");
-    put_flag(out, at, bulkin.transfer.phase == OWED)
+    put_flag(out, at, owed)
 }
 
-pub fn put_overview(
-    out: &mut [u8],
-    at: usize,
-    small: Small,
-    split: Split,
-    remote: Remote,
-) -> usize {
-    let port = small.port;
-    let bulkout = small.bulkout;
-    let bulkin = small.bulkin;
-    let at = put_port(out, at, port, remote, small.interrupt.status);
-    let at = put_halts(out, at, bulkout, bulkin);
-    let at = put_message(out, at, bulkout);
-    let at = put_reply(out, at, bulkin, split);
-    let at = put_tags(out, at, bulkout, bulkin);
+pub fn put_overview(out: &mut [u8], at: usize, small: Small, split: Split, remote: Remote) -> usize
+    ensures { λ r. ⌜ (now (out .exit), r) ≡ typed (now (out .entry), at) (overviewText small split remote) ⌝ }
+{
+    let at = put_port(
+        out,
+        at,
+        small.port.configured,
+        small.port.ren,
+        remote,
+        small.interrupt.status,
+    );
+    let at = put_halts(out, at, small.bulkout.halted, small.bulkin.halted);
+    let at = put_message(
+        out,
+        at,
+        small.bulkout.message.ready,
+        small.bulkout.message.held,
+        small.bulkout.transfer.left,
+    );
+    let at = put_reply(
+        out,
+        at,
+        small.bulkin.reply.unsent,
+        split,
+        small.bulkin.transfer.phase == OWED,
+    );
+    let at = put_tags(out, at, small.bulkout.recent, small.bulkin.recent);
     put_byte(out, at, b'\n')
 }
 
 // The packet that waits on Interrupt-IN, by its two bytes.
-fn put_notify(out: &mut [u8], at: usize, waiting: Notify) -> usize {
-    if waiting.notify1 == 0 {
+fn put_notify(out: &mut [u8], at: usize, notify1: u8, notify2: u8) -> usize
+    ensures { λ r. ⌜ (now (out .exit), r) ≡ typed (now (out .entry), at) (notifyText notify1 notify2) ⌝ }
+{
+    if notify1 == 0 {
         return put(out, at, b" int=none");
     }
     let at = put(out, at, b" int=");
-    let at = put_pair(out, at, waiting.notify1);
-    put_pair(out, at, waiting.notify2)
+    let at = put_pair(out, at, notify1);
+    put_pair(out, at, notify2)
 }
 
-fn put_interrupt(out: &mut [u8], at: usize, interrupt: InterruptIn) -> usize {
-    let waiting = interrupt.waiting;
-    let at = put_notify(out, at, waiting);
-    let at = put(out, at, b" int-endpoint=");
-    put_halted(out, at, interrupt.halted)
-}
-
-pub fn put_more(out: &mut [u8], at: usize, small: Small) -> usize {
-    let interrupt = small.interrupt;
+pub fn put_more(out: &mut [u8], at: usize, small: Small) -> usize
+    ensures { λ r. ⌜ (now (out .exit), r) ≡ typed (now (out .entry), at) (moreText small) ⌝ }
+{
     let at = put(out, at, b"0 p=");
     let at = put_decimal(out, at, small.port.setting.packet);
-    let at = put_interrupt(out, at, interrupt);
+    let at = put_notify(
+        out,
+        at,
+        small.interrupt.waiting.notify1,
+        small.interrupt.waiting.notify2,
+    );
+    let at = put(out, at, b" int-endpoint=");
+    let at = put_halted(out, at, small.interrupt.halted);
     put_byte(out, at, b'\n')
 }

@@ -1,5 +1,4 @@
-// Lines of text: what they ask for, and what is wrong with them. Nothing here knows a unit.
+// Lines of text: what they ask for. Nothing here knows a unit.
 pub mod asked; // what a line asks for
-pub mod given; // what a word gives, or what is wrong with it
+pub mod given; // what a word gives, or why it cannot be read
 pub mod names; // the names of the calls
-pub mod wrong; // the answers to lines that cannot be read

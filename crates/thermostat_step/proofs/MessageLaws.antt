@@ -55,8 +55,11 @@ module _ (st : State) (n : ℕ) where
         → Hands taken (record { state = withOut st (released (outOf st)); verdict = done; len = outOf st .message .held }) b (paste b 0 message (outOf st .message .held))
     take-given e f =
         let l = take-done (length b) gate held e in
-        let whole : outOf st .message .held ≡ length held = omega (arith, length-take (outOf st .message .held) message) in
-        (ap {B = Given} (λ (k : ℕ). record { state = withOut st (released (outOf st)); verdict = done; len = k }) whole ∙ ap givenOf l, front-pasted b message (outOf st .message .held) f ∙ ap (λ (r : Said). into (r .answer .bytes) b) l)
+        let whole : outOf st .message .held ≡ length held = omega (arith, length-take (outOf st .message .held) message) in (
+          ap {B = Given} (λ (k : ℕ). record { state = withOut st (released (outOf st)); verdict = done; len = k }) whole ∙ ap givenOf l,
+          front-pasted b message (outOf st .message .held) f
+              ∙ ap (λ (r : Said). into (r .answer .bytes) b) l,
+        )
 
   module _ (k : ℕ) (gate : n ≡ first (offerRules st k) 0) where
     pub offer-refused : (n ≡ 0 → ⊥) → plain st (only n) ≡ offerPlan st k

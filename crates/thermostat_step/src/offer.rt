@@ -119,7 +119,8 @@ fn offer_plan(st: State, n: usize) -> Plan
 // The bytes go to the front of a store that begins with the reply.
 fn offer_into(store: &mut [u8], st: State, bytes: &[u8]) -> Plan
     requires { ⌜ 1024 ≤ length (now store) ⌝ }
-    ensures { λ r. ⌜ (r ≡ offerPlan st (length (now (bytes .entry)))) × (now (store .exit) ≡ paste (now (store .entry)) 0 (drop (r .from) (now (bytes .entry))) (r .count)) ⌝ }
+    ensures { λ r. ⌜ (r ≡ offerPlan st (length (now (bytes .entry))))
+        × (now (store .exit) ≡ paste (now (store .entry)) 0 (drop (r .from) (now (bytes .entry))) (r .count)) ⌝ }
 {
     let plan = offer_plan(st, bytes.len());
     let from = plan.from;
@@ -130,7 +131,8 @@ fn offer_into(store: &mut [u8], st: State, bytes: &[u8]) -> Plan
 
 // The offer is decided over the state, and its bytes go to the front of the reply store.
 pub fn offer_step(reply: &mut [u8; 1024], st: State, bytes: &[u8]) -> Plan
-    ensures { λ r. ⌜ (r ≡ pick (sound st) (offerPlan st (length (now (bytes .entry)))) (plain st (only 1))) × (now (reply .exit) ≡ paste (now (reply .entry)) 0 (drop (r .from) (now (bytes .entry))) (r .count)) ⌝ }
+    ensures { λ r. ⌜ (r ≡ pick (sound st) (offerPlan st (length (now (bytes .entry)))) (plain st (only 1)))
+        × (now (reply .exit) ≡ paste (now (reply .entry)) 0 (drop (r .from) (now (bytes .entry))) (r .count)) ⌝ }
 {
     if sound(st) {
         return offer_into(reply, st, bytes);

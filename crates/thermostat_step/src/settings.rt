@@ -13,6 +13,7 @@ use state_sound::sound::sound;
 ghost use mathlib.Core.Path.{_≡_};
 ghost use Prim.Native.Nat.{ℕ};
 ghost use Rattle.rules.specs.Choice.{pick, first};
+ghost use Rattle.rules.specs.Answers.{UNSOUND};
 ghost use Rattle.port.specs.Sound.{sound};
 ghost use Rattle.port.specs.Answer.{refuse};
 ghost use Rattle.port.specs.Calls.{thermostatRules, statusSet, returned};
@@ -39,7 +40,7 @@ fn sound_gate(st: State) -> u8
 }
 
 pub fn status_set(st: State, status: u8) -> Given
-    ensures { λ r. ⌜ r ≡ givenOf (pick (sound st) (statusSet st status) (refuse st 1)) ⌝ }
+    ensures { λ r. ⌜ r ≡ givenOf (pick (sound st) (statusSet st status) (refuse st UNSOUND)) ⌝ }
 {
     let number = sound_gate(st);
     if number != 0 {
@@ -51,7 +52,7 @@ pub fn status_set(st: State, status: u8) -> Given
 
 // Local control, asked for at the front panel.
 pub fn returned(st: State) -> Given
-    ensures { λ r. ⌜ r ≡ givenOf (pick (sound st) (returned st) (refuse st 1)) ⌝ }
+    ensures { λ r. ⌜ r ≡ givenOf (pick (sound st) (returned st) (refuse st UNSOUND)) ⌝ }
 {
     let number = sound_gate(st);
     if number != 0 {

@@ -20,6 +20,7 @@ ghost use mathlib.Core.Bool.{true};
 ghost use Prim.Native.Nat.{ℕ, _≤_};
 ghost use lib.ListN.{length};
 ghost use Rattle.rules.specs.Choice.{pick, first};
+ghost use Rattle.rules.specs.Answers.{UNSOUND};
 ghost use Rattle.port.specs.Sound.{sound};
 ghost use Rattle.port.specs.Answer.{refuse};
 ghost use Rattle.port.specs.Device.{heldIn};
@@ -71,7 +72,8 @@ fn take_from(message: &[u8], st: State, b: &mut [u8]) -> Given
 }
 
 pub fn take_step(message: &[u8; 1024], st: State, b: &mut [u8]) -> Given
-    ensures { λ r. ⌜ Hands (pick (sound st) (taking st (heldIn (st .small .bulkout) (now (message .entry))) (length (now (b .entry)))) (refuse st 1)) r (now (b .entry)) (now (b .exit)) ⌝ }
+    ensures { λ r. ⌜ Hands (pick (sound st) (taking st (heldIn (st .small .bulkout) (now (message .entry))) (length (now (b .entry)))) (refuse st UNSOUND))
+        r (now (b .entry)) (now (b .exit)) ⌝ }
 {
     if sound(st) {
         return take_from(message, st, b);

@@ -11,16 +11,16 @@ use Rattle.rules.specs.Choice.{pick}
 use Rattle.rules.specs.Answers.{DONE, UNSOUND, WRONG-SIZE, only, done}
 use Rattle.rules.proofs.Choice.{pick-map, pick-true, pick-false}
 use Rattle.wire.specs.Bytes.{into}
-use Rattle.wire.specs.Header.{OFF}
+use Rattle.rules.specs.Flags.{OFF}
 use Rattle.wire.specs.Setup.{CONTROL}
 use Rattle.wire.specs.declared.types.Row.{Row}
 use Rattle.port.specs.Parts.{FULL-SPEED, isSize, outOf}
-use Rattle.port.specs.Answer.{Said, number, refuse}
+use Rattle.port.specs.Answer.{Said, numbered, refuse}
 use Rattle.port.specs.Out.{plain, outPlan}
 use Rattle.port.specs.Rows.{answerRow, reacted}
 use Rattle.port.specs.Device.{Device, Result, isSound, withState, made, powerOn}
 use Rattle.port.specs.Given.{givenOf, Hands}
-use Rattle.port.specs.Calls.{refused, said, carriedOut, bulkOut, setupOutcome, renewed, answered, setup, offerPlan, withReply, offer, busReset}
+use Rattle.port.specs.Calls.{refused, said, withMessage, bulkOut, setupOutcome, renewed, answered, setup, offerPlan, withReply, offer, busReset}
 use Rattle.port.specs.Step.{offer-reply, Call, out-packet, bus-reset, quiet, setup-of, quietly, soundly, step}
 use Rattle.port.specs.declared.types.Setting.{Setting}
 use Rattle.port.specs.declared.types.Plan.{Plan}
@@ -67,13 +67,15 @@ pub stepped : (u : Unit) (s : List ℕ) (plan : Plan) (m : List ℕ) → plan �
 unfolding soundly bulkOut
 stepped u s plan m e f =
     ap (λ (n : List ℕ). record { unit = after-plan u plan n; verdict = plan .verdict }) f
-    ∙ ap (λ (p : Plan). doneOf (carriedOut (deviceOf u) s p)) e
-    ∙ ap doneOf (guarded (carriedOut (deviceOf u) s) (deviceOf u) (out-packet s) _ _ refl (unplanned (deviceOf u) s UNSOUND))
+    ∙ ap (λ (p : Plan). doneOf (withMessage (deviceOf u) s p)) e
+    ∙ ap doneOf (guarded (withMessage (deviceOf u) s) (deviceOf u) (out-packet s) _ _ refl (unplanned (deviceOf u) s UNSOUND))
 
 -- an offer, by its plan and the reply store behind it
 pub stored : (u : Unit) (bytes : List ℕ) (plan : Plan) (m : List ℕ) → plan ≡ pick (isSound (deviceOf u)) (offerPlan (deviceOf u .state) (length bytes)) (plain (deviceOf u .state) (only UNSOUND))
     → m ≡ paste (u .reply) 0 (drop (plan .from) bytes) (plan .count)
-    → _≡_ {A = Done} (record { unit = record { message = u .message; reply = m; small = plan .state .small; split = plan .state .split; remote = plan .state .remote }; verdict = plan .verdict }) (doneOf (step (deviceOf u) (quiet (offer-reply bytes))))
+    → _≡_ {A = Done}
+    (record { unit = record { message = u .message; reply = m; small = plan .state .small; split = plan .state .split; remote = plan .state .remote }; verdict = plan .verdict })
+    (doneOf (step (deviceOf u) (quiet (offer-reply bytes))))
 unfolding soundly quietly offer
 stored u bytes plan m e f =
     ap (λ (n : List ℕ). record { unit = record { message = u .message; reply = n; small = plan .state .small; split = plan .state .split; remote = plan .state .remote }; verdict = plan .verdict }) f
@@ -121,11 +123,11 @@ module _ (d : Device) (s b : List ℕ) (x : SetupOutcome) (is : x ≡ pick (isSo
 module _ (setting : Setting) where
   pub powered : isSize (setting .packet) ≡ true → _≡_ {A = Done} (record { unit = unitOf (made setting OFF); verdict = done }) (doneOf (powerOn setting))
   unfolding powerOn
-  powered e = ap doneOf (pick-true (record { unit = made setting OFF; answer = number DONE }) _ _ _ e refl)
+  powered e = ap doneOf (pick-true (record { unit = made setting OFF; answer = numbered DONE }) _ _ _ e refl)
 
   pub unpowered : isSize (setting .packet) ≡ false → _≡_ {A = Done} (record { unit = unitOf (made (record { packet = FULL-SPEED }) OFF); verdict = only WRONG-SIZE }) (doneOf (powerOn setting))
   unfolding powerOn
-  unpowered e = ap doneOf (pick-false (record { unit = made (record { packet = FULL-SPEED }) OFF; answer = number WRONG-SIZE }) _ _ _ e refl)
+  unpowered e = ap doneOf (pick-false (record { unit = made (record { packet = FULL-SPEED }) OFF; answer = numbered WRONG-SIZE }) _ _ _ e refl)
 
 module _ (d : Device) where
   pub reset-done : isSound d ≡ true → _≡_ {A = Done} (record { unit = unitOf (made (d .state .small .port .setting) OFF); verdict = done }) (doneOf (step d bus-reset))

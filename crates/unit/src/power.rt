@@ -3,6 +3,7 @@ use crate::types::Done;
 use crate::types::Unit;
 use port::types::FULL_SPEED;
 use port::types::HIGH_SPEED;
+use port::types::STORE;
 use port::types::Setting;
 use rules::DONE;
 use rules::UNSOUND;
@@ -11,6 +12,9 @@ use rules::verdict::only;
 use state_parts::parts::fresh;
 use state_sound::sound::is_size;
 use state_sound::sound::sound;
+use wire::types::BULK_IN;
+use wire::types::BULK_OUT;
+use wire::types::INTERRUPT_IN;
 ghost use mathlib.Core.Path.{_≡_};
 ghost use Prim.Native.Nat.{ℕ};
 ghost use Rattle.port.specs.Device.{made, powerOn};
@@ -18,6 +22,16 @@ ghost use Rattle.port.specs.Step.{bus-reset, step};
 ghost use Rattle.unit.specs.Promise.{deviceOf, unitOf, doneOf};
 
 impl Unit {
+    // Bytes that a store holds.
+    pub const STORE: u16 = STORE;
+
+    // The endpoints, by their addresses.
+    pub const BULK_OUT: u8 = BULK_OUT;
+
+    pub const BULK_IN: u8 = BULK_IN;
+
+    pub const INTERRUPT_IN: u8 = INTERRUPT_IN;
+
     // The packet sizes that there are.
     pub const FULL_SPEED: u16 = FULL_SPEED;
 

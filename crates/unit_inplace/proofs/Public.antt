@@ -27,7 +27,8 @@ module _ (u : Unit) (s : List ℕ) (u′ : Unit) (r : Verdict) (meets : Alters (
 
 module _ (u : Unit) (b b′ : List ℕ) (u′ : Unit) (r : Sent) (meets : Sends (step (deviceOf u) (quiet (in-poll (length b)))) b b′ u′ r) where
   pub poll-in-place-unique : (b″ : List ℕ) (u″ : Unit) (r′ : Sent) → Sends (step (deviceOf u) (quiet (in-poll (length b)))) b b″ u″ r′ → (u′ ≡ u″) × (r ≡ r′) × (b′ ≡ b″)
-  poll-in-place-unique b″ u″ r′ k = (meets .unit ∙ sym (k .unit), (λ i. record { verdict = (meets .verdict ∙ sym (k .verdict)) i; len = (meets .len ∙ sym (k .len)) i }), meets .buffer ∙ sym (k .buffer))
+  poll-in-place-unique b″ u″ r′ k =
+      (meets .unit ∙ sym (k .unit), (λ i. record { verdict = (meets .verdict ∙ sym (k .verdict)) i; len = (meets .len ∙ sym (k .len)) i }), meets .buffer ∙ sym (k .buffer))
 
   pub poll-in-place-step : IsPollAt (step (deviceOf u) (quiet (in-poll (length b)))) b b′ u′ r
   poll-in-place-step =

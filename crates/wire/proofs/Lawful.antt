@@ -8,7 +8,8 @@ use lib.ListN.{length}
 use borrow.Author.Tests.{ltb-false, eqb-false}
 use Rattle.rules.specs.Answers.{NOT-IN-FOURS, SHORT-HEADER, BAD-TAG, UNKNOWN-MSGID, RESERVED}
 use Rattle.rules.proofs.Choice.{pick-all, decide-all, neb-eq, none-left}
-use Rattle.wire.specs.Header.{FOUR, HEADER, D0, bTag, attributes, TransferSize, messageRules, requestRules, spareRules, triggerRules, readingRules, readMessage, readRequest, readTrigger, readHeader}
+use Rattle.wire.specs.Header.{FOUR, HEADER, D0, bTag, attributes, TransferSize, messageRules, requestRules}
+use Rattle.wire.specs.Header.{triggerRules, readingRules, readMessage, readRequest, readTrigger, readHeader}
 use Rattle.wire.specs.declared.types.Header.{Header}
 use Rattle.wire.specs.declared.types.Header.the-variants.{Message, Request, Trigger}
 use Rattle.wire.specs.declared.types.Read.{Read}
@@ -36,12 +37,12 @@ module _ (s : List ℕ) (P : Read → Type 0) (reserved : P (Fault RESERVED)) (g
     request-ways : P (readRequest s)
     unfolding readRequest
     request-ways =
-        decide-all P Fault (requestRules s) _ (reserved, (reserved, (reserved, tt)))
+        decide-all P Fault (requestRules s) _ (reserved, (reserved, (reserved, (reserved, tt))))
         (λ n.
         let size = eqb-false (TransferSize s) 0 (n .1 .0) in
         pick-all P _ _ _
-        (λ _. decide-all P Fault (spareRules s) _ (reserved, tt) (λ _. good _ (long, fours, (tag, size, omega arith, λ _. refl))))
-        (λ _. decide-all P Fault (spareRules s) _ (reserved, tt) (λ _. good _ (long, fours, (tag, size, omega arith, λ e. absurd (omega arith))))))
+        (λ _. good _ (long, fours, (tag, size, omega arith, λ _. refl)))
+        (λ _. good _ (long, fours, (tag, size, omega arith, λ e. absurd (omega arith)))))
 
     trigger-ways : P (readTrigger s)
     unfolding readTrigger

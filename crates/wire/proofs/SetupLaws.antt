@@ -14,7 +14,9 @@ use Rattle.wire.specs.Setup.{wValue, wIndex, wLength, fitting, matches, 
 use Rattle.wire.specs.When.{twoAt, Column, rows, Matches}
 use Rattle.wire.proofs.When.{setup-law}
 use Rattle.wire.specs.declared.types.Row.{Row}
-use Rattle.wire.specs.declared.types.Row.the-variants.{InitiateAbortBulkOut, CheckAbortBulkOutStatus, InitiateAbortBulkIn, CheckAbortBulkInStatus, InitiateClear, CheckClearStatus, GetCapabilities, IndicatorPulse, ReadStatusByte, RenControl, GoToLocal, LocalLockout, ClearFeature, SetFeature, GetStatus}
+use Rattle.wire.specs.declared.types.Row.the-variants.{InitiateAbortBulkOut, CheckAbortBulkOutStatus, InitiateAbortBulkIn, CheckAbortBulkInStatus}
+use Rattle.wire.specs.declared.types.Row.the-variants.{InitiateClear, CheckClearStatus, GetCapabilities, IndicatorPulse, ReadStatusByte}
+use Rattle.wire.specs.declared.types.Row.the-variants.{RenControl, GoToLocal, LocalLockout, ClearFeature, SetFeature, GetStatus}
 use Rattle.wire.specs.declared.types.Setup.{Setup}
 use Rattle.wire.specs.declared.types.Setup.the-variants.{Configure, Asks, NoRow}
 

@@ -16,9 +16,12 @@ use Rattle.rules.specs.When.{Not, _when_∣_, else-0}
 use Rattle.rules.proofs.Choice.{pick-all, AllOf, all-of, of-all}
 use Rattle.rules.proofs.When.{Tells, in-words, equals, differs, is-less, negated, one-of, decided, sure, By, line, shared, line-in-words}
 use Rattle.wire.specs.Bytes.{allZero, number4, zeros}
-use Rattle.wire.specs.Header.{HEADER, DEV-DEP-MSG-OUT, REQUEST-DEV-DEP-MSG-IN, MsgID, bTag, TransferSize, TermChar, D1, OFF, ON, readMessage, requestEnd, readRequest, readTrigger, readHeader, headerNumber}
+use Rattle.rules.specs.Flags.{OFF, ON}
+use Rattle.wire.specs.Header.{HEADER, DEV-DEP-MSG-OUT, REQUEST-DEV-DEP-MSG-IN, MsgID, bTag, TransferSize, TermChar}
+use Rattle.wire.specs.Header.{D1, readMessage, readRequest, readTrigger, readHeader, headerNumber}
 use Rattle.wire.specs.Setup.{fitting, matches, row, byEndpoint, toEndpoint, toInterface, toFeature, toStatus, toDevice, readSetup}
-use Rattle.wire.specs.When.{at, twoAt, fourAt, Zeros, Commands, Requests, Triggers, UnknownMsgID, BadCommand, BadRequest, BadTrigger, Reserved, Means, headerGiven, HeaderLaw}
+use Rattle.wire.specs.When.{at, twoAt, fourAt, Zeros, Commands, Requests, Triggers, UnknownMsgID, BadCommand}
+use Rattle.wire.specs.When.{BadRequest, BadTrigger, Reserved, Means, headerGiven, HeaderLaw}
 use Rattle.wire.specs.When.{Column, _∣_∣_to_∣_∣_▹_∣_, rows, Fits, Matches, SetupLaw}
 use Rattle.wire.specs.declared.types.Header.{Header}
 use Rattle.wire.specs.declared.types.Header.the-variants.{Request}
@@ -73,20 +76,16 @@ module _ (s : List ℕ) (P : Read → ℕ) (later : Read → ℕ → Type 0) (fa
         (λ _. line _ (negated (in-words (λ z. (z .0, z .1 .0, z .1 .1 .0)) (λ z. (z .0, (z .1, (z .2, tt)))) (some-zeros s 9 3 HEADER refl long))) (faults 10)
         (λ _. good _ (c, refl, same-size s, refl)))))
 
-    request-end-when : (enabled term : ℕ) → Means s (Request (bTag s) (TransferSize s) enabled term)
-        → By P (λ r. 10 when Not ((at s 10 ≡ 0) × (at s 11 ≡ 0)) ∣ later r) (requestEnd s (TransferSize s) enabled term)
-    request-end-when enabled term m =
-        line _ (negated (in-words (λ z. (z .0, z .1 .0)) (λ z. (z .0, (z .1, tt))) (some-zeros s 10 2 HEADER refl long))) (faults 10) (λ _. good _ m)
-
     request-when : Requests s → By P (λ r. 10 when BadRequest s ∣ later r) (readRequest s)
     unfolding readRequest
     request-when c =
         shared _ (differs (at s 3) 0) (faults 10)
         (λ _. shared _ (no-size s) (faults 10)
         (λ _. shared _ (in-words (λ n. (λ e. n (inl e), λ e. n (inr e))) (λ n. ⊎-elim (n .0) (n .1)) (negated (one-of (equals (at s 8) 0) (equals (at s 8) D1)))) (faults 10)
-        (λ n. pick-all (By P _) _ _ _
-        (λ e. request-end-when OFF 0 (c, refl, same-size s, inl (eqb-true _ _ e, refl, refl)))
-        (λ e. request-end-when ON (TermChar s) (c, refl, same-size s, inr (sure _ (equals (at s 8) 2) (λ d. n (eqb-false _ _ e, d)), refl, refl))))))
+        (λ n. line _ (negated (in-words (λ z. (z .0, z .1 .0)) (λ z. (z .0, (z .1, tt))) (some-zeros s 10 2 HEADER refl long))) (faults 10)
+        (λ _. pick-all (By P _) _ _ _
+        (λ e. good _ (c, refl, same-size s, inl (eqb-true _ _ e, refl, refl)))
+        (λ e. good _ (c, refl, same-size s, inr (sure _ (equals (at s 8) 2) (λ d. n (eqb-false _ _ e, d)), refl, refl)))))))
 
     trigger-when : Triggers s → By P (λ r. 10 when BadTrigger s ∣ later r) (readTrigger s)
     unfolding readTrigger
@@ -233,7 +232,8 @@ module _ (s : List ℕ) where
 
   -- the rows of the three endpoints
   endpoints : (t q size : ℕ) (asked : Endpoint → Row) → at s 0 ≡ t → at s 1 ≡ q
-      → Right s (t ∣ q ∣ 0 to 0 ∣ 0x01 ∣ size ▹ (λ _. Asks (asked Out)) ∣ t ∣ q ∣ 0 to 0 ∣ 0x82 ∣ size ▹ (λ _. Asks (asked In)) ∣ t ∣ q ∣ 0 to 0 ∣ 0x83 ∣ size ▹ (λ _. Asks (asked Interrupt)) ∣ []) (byEndpoint s size asked)
+      → Right s (t ∣ q ∣ 0 to 0 ∣ 0x01 ∣ size ▹ (λ _. Asks (asked Out)) ∣ t ∣ q ∣ 0 to 0 ∣ 0x82 ∣ size ▹ (λ _. Asks (asked In)) ∣ t ∣ q ∣ 0 to 0 ∣ 0x83 ∣ size ▹
+      (λ _. Asks (asked Interrupt)) ∣ []) (byEndpoint s size asked)
   endpoints t q size asked e f =
       by-key index 1 0x01 tt tt (λ _. row-read tt e f) (by-key index 1 0x82 tt tt (λ _. row-read tt e f) (by-key index 1 0x83 tt tt (λ _. row-read tt e f) end))
 

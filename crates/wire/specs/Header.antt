@@ -6,6 +6,7 @@ use mathlib.Core.List.{List, [], _∷_, _++_}
 use lib.ListN.{length}
 use Rattle.rules.specs.Choice.{_=ᵇ_, _≠ᵇ_, _<ᵇ_, no, _or_, pick, _⇒_∣_, decide}
 use Rattle.rules.specs.Answers.{DONE, NOT-IN-FOURS, SHORT-HEADER, BAD-TAG, UNKNOWN-MSGID, RESERVED}
+use Rattle.rules.specs.Flags.{OFF, ON}
 use Rattle.wire.specs.Bytes.{byte, number4, bytes4, zeros}
 use Rattle.wire.specs.declared.types.Header.the-variants.{Message, Request, Trigger}
 use Rattle.wire.specs.declared.types.Read.{Read}
@@ -18,6 +19,9 @@ HEADER = 12
 -- "up to a multiple of 4"
 abbrev pub FOUR : ℕ
 FOUR = 4
+
+abbrev pub notInFours : List ℕ → Bool
+notInFours s = length s % FOUR ≠ᵇ 0
 
 abbrev pub aligned : ℕ → ℕ
 aligned n = (n + (FOUR - 1)) / FOUR * FOUR
@@ -41,6 +45,9 @@ bTag s = byte s 1
 abbrev pub bTagInverse : List ℕ → ℕ
 bTagInverse s = byte s 2
 
+abbrev pub reserved : List ℕ → ℕ
+reserved s = byte s 3
+
 abbrev pub TransferSize : List ℕ → ℕ
 TransferSize s = number4 s 4
 
@@ -61,45 +68,37 @@ D1 = 2
 abbrev pub inverse : ℕ → ℕ
 inverse tag = 255 - tag
 
--- a flag of the unit
-abbrev pub OFF : ℕ
-OFF = 0
-
-abbrev pub ON : ℕ
-ON = 1
-
 -- ** on Bulk-OUT
 
--- "reserved byte .. not 0; TransferSize 0 for MsgID 1 or 2", and then what is reserved by MsgID
-abbrev pub sizedRules : List ℕ → List (Bool × ℕ) → List (Bool × ℕ)
-sizedRules s more = byte s 3 ≠ᵇ 0 ⇒ RESERVED ∣ TransferSize s =ᵇ 0 ⇒ RESERVED ∣ more
+-- "reserved byte or bit not 0; TransferSize 0 for MsgID 1 or 2", a list for each MsgID
 
--- "attributes with only D0 = EOM, three 0"
+-- "TransferSize (4), attributes with only D0 = EOM, three 0"
 abbrev pub messageRules : List ℕ → List (Bool × ℕ)
 messageRules s =
-    sizedRules s
-    (D0 <ᵇ attributes s ⇒ RESERVED ∣
-    no (zeros s 9 HEADER) ⇒ RESERVED ∣ [])
+    reserved s ≠ᵇ 0 ⇒ RESERVED ∣
+    TransferSize s =ᵇ 0 ⇒ RESERVED ∣
+    D0 <ᵇ attributes s ⇒ RESERVED ∣
+    no (zeros s 9 HEADER) ⇒ RESERVED ∣ []
 
 unfoldable pub readMessage : List ℕ → Read
 readMessage s = decide Fault (messageRules s) (Good (Message (bTag s) (TransferSize s) (attributes s)))
 
--- "attributes with only D1 = TermCharEnabled, TermChar (ignored unless enabled), two 0"
+-- "TransferSize, attributes with only D1 = TermCharEnabled, TermChar (ignored unless enabled), two 0"
 abbrev pub requestRules : List ℕ → List (Bool × ℕ)
-requestRules s = sizedRules s (no (attributes s =ᵇ 0 or attributes s =ᵇ D1) ⇒ RESERVED ∣ [])
-
-abbrev pub spareRules : List ℕ → List (Bool × ℕ)
-spareRules s = no (zeros s 10 HEADER) ⇒ RESERVED ∣ []
-
-abbrev pub requestEnd : List ℕ → ℕ → ℕ → ℕ → Read
-requestEnd s size enabled term = decide Fault (spareRules s) (Good (Request (bTag s) size enabled term))
+requestRules s =
+    reserved s ≠ᵇ 0 ⇒ RESERVED ∣
+    TransferSize s =ᵇ 0 ⇒ RESERVED ∣
+    no (attributes s =ᵇ 0 or attributes s =ᵇ D1) ⇒ RESERVED ∣
+    no (zeros s 10 HEADER) ⇒ RESERVED ∣ []
 
 unfoldable pub readRequest : List ℕ → Read
 readRequest s =
     decide Fault (requestRules s)
-    (pick (attributes s =ᵇ 0) (requestEnd s (TransferSize s) OFF 0) (requestEnd s (TransferSize s) ON (TermChar s)))
+    (pick (attributes s =ᵇ 0)
+    (Good (Request (bTag s) (TransferSize s) OFF 0))
+    (Good (Request (bTag s) (TransferSize s) ON (TermChar s))))
 
--- "eight 0"
+-- "eight 0", and the one before them
 abbrev pub triggerRules : List ℕ → List (Bool × ℕ)
 triggerRules s = no (zeros s 3 HEADER) ⇒ RESERVED ∣ []
 
@@ -112,7 +111,7 @@ known s = MsgID s =ᵇ DEV-DEP-MSG-OUT or MsgID s =ᵇ REQUEST-DEV-DEP-MSG-IN or
 -- "a header then goes 6, 7, 8, 9, 10": number 10 is told by MsgID
 abbrev pub readingRules : List ℕ → List (Bool × ℕ)
 readingRules s =
-    length s % FOUR ≠ᵇ 0 ⇒ NOT-IN-FOURS ∣
+    notInFours s ⇒ NOT-IN-FOURS ∣
     length s <ᵇ HEADER ⇒ SHORT-HEADER ∣
     bTag s =ᵇ 0 or bTagInverse s ≠ᵇ inverse (bTag s) ⇒ BAD-TAG ∣
     no (known s) ⇒ UNKNOWN-MSGID ∣ []

@@ -2,13 +2,15 @@
 -- Assumes nothing.
 use Prim.Native.Nat.{ℕ}
 use mathlib.Core.Bool.{Bool}
-use mathlib.Core.List.{List, []}
+use mathlib.Core.List.{List, [], _∷_}
 use Rattle.rules.specs.Choice.{_=ᵇ_, _≤ᵇ_, pick, _⇒_∣_, first, _&_, all}
 use Rattle.wire.specs.Bytes.{byte, number2}
 use Rattle.wire.specs.declared.types.Endpoint.{Endpoint}
 use Rattle.wire.specs.declared.types.Endpoint.the-variants.{Out, In, Interrupt}
 use Rattle.wire.specs.declared.types.Row.{Row}
-use Rattle.wire.specs.declared.types.Row.the-variants.{InitiateAbortBulkOut, CheckAbortBulkOutStatus, InitiateAbortBulkIn, CheckAbortBulkInStatus, InitiateClear, CheckClearStatus, GetCapabilities, IndicatorPulse, ReadStatusByte, RenControl, GoToLocal, LocalLockout, ClearFeature, SetFeature, GetStatus}
+use Rattle.wire.specs.declared.types.Row.the-variants.{InitiateAbortBulkOut, CheckAbortBulkOutStatus, InitiateAbortBulkIn, CheckAbortBulkInStatus}
+use Rattle.wire.specs.declared.types.Row.the-variants.{InitiateClear, CheckClearStatus, GetCapabilities, IndicatorPulse, ReadStatusByte}
+use Rattle.wire.specs.declared.types.Row.the-variants.{RenControl, GoToLocal, LocalLockout, ClearFeature, SetFeature, GetStatus}
 use Rattle.wire.specs.declared.types.Setup.{Setup}
 use Rattle.wire.specs.declared.types.Setup.the-variants.{Configure, Asks, NoRow}
 
@@ -45,7 +47,21 @@ wIndex s = number2 s 4
 abbrev pub wLength : List ℕ → ℕ
 wLength s = number2 s 6
 
--- a value from `low` to `high`, an index and a length that are the ones given: a row's columns
+-- a row's own columns: its request, a value from `low` to `high`, an index and a length; and what it asks, of the value
+pub record Columns : Type 0 where
+  pub request : ℕ
+  pub low : ℕ
+  pub high : ℕ
+  pub index : ℕ
+  pub size : ℕ
+  pub asks : ℕ → Setup
+
+infixr 2 bRequest≡_wValue≡_to_wIndex≡_wLength≡_▹_∣_
+abbrev pub bRequest≡_wValue≡_to_wIndex≡_wLength≡_▹_∣_ : ℕ → ℕ → ℕ → ℕ → ℕ → (ℕ → Setup) → List Columns → List Columns
+bRequest≡_wValue≡_to_wIndex≡_wLength≡_▹_∣_ request low high index size asks below =
+    record { request = request; low = low; high = high; index = index; size = size; asks = asks } ∷ below
+
+-- a value from `low` to `high`, an index and a length that are the ones given
 unfoldable pub fitting : ℕ → ℕ → ℕ → ℕ → ℕ → ℕ → ℕ → Bool
 fitting value low high at index long size = all (low ≤ᵇ value & value ≤ᵇ high & at =ᵇ index & long =ᵇ size & [])
 
@@ -54,6 +70,14 @@ matches s low high index size = fitting (wValue s) low high (wIndex s) index (wL
 
 abbrev pub row : Bool → Setup → Setup
 row fits what = pick fits what NoRow
+
+-- the row of the table with the packet's bRequest, where its other columns fit
+abbrev pub found : List ℕ → List Columns → Setup
+found s [] = NoRow
+found s (r ∷ below) =
+    pick (bRequest s =ᵇ r .request)
+    (row (matches s (r .low) (r .high) (r .index) (r .size)) (r .asks (wValue s)))
+    (found s below)
 
 -- "by endpoint": the row of Bulk-OUT, of Bulk-IN, or of Interrupt-IN
 abbrev pub ofEndpoint : List ℕ → ℕ → Row → Row → Row → Setup
@@ -70,26 +94,24 @@ byEndpoint s size asked = ofEndpoint s size (asked Out) (asked In) (asked Interr
 -- "Class requests to .. an endpoint A2"
 unfoldable pub toEndpoint : List ℕ → Setup
 toEndpoint s =
-    first
-    (bRequest s =ᵇ 1 ⇒ row (matches s 1 255 BULK-OUT 2) (Asks (InitiateAbortBulkOut (wValue s))) ∣
-    bRequest s =ᵇ 2 ⇒ row (matches s 0 0 BULK-OUT 8) (Asks CheckAbortBulkOutStatus) ∣
-    bRequest s =ᵇ 3 ⇒ row (matches s 1 255 BULK-IN 2) (Asks (InitiateAbortBulkIn (wValue s))) ∣
-    bRequest s =ᵇ 4 ⇒ row (matches s 0 0 BULK-IN 8) (Asks CheckAbortBulkInStatus) ∣ [])
-    NoRow
+    found s
+    (bRequest≡ 1 wValue≡ 1 to 255 wIndex≡ BULK-OUT wLength≡ 2 ▹ (λ tag. Asks (InitiateAbortBulkOut tag)) ∣
+    bRequest≡ 2 wValue≡ 0 to 0 wIndex≡ BULK-OUT wLength≡ 8 ▹ (λ _. Asks CheckAbortBulkOutStatus) ∣
+    bRequest≡ 3 wValue≡ 1 to 255 wIndex≡ BULK-IN wLength≡ 2 ▹ (λ tag. Asks (InitiateAbortBulkIn tag)) ∣
+    bRequest≡ 4 wValue≡ 0 to 0 wIndex≡ BULK-IN wLength≡ 8 ▹ (λ _. Asks CheckAbortBulkInStatus) ∣ [])
 
 -- "Class requests to the interface are A1"
 unfoldable pub toInterface : List ℕ → Setup
 toInterface s =
-    first
-    (bRequest s =ᵇ 5 ⇒ row (matches s 0 0 0 1) (Asks InitiateClear) ∣
-    bRequest s =ᵇ 6 ⇒ row (matches s 0 0 0 2) (Asks CheckClearStatus) ∣
-    bRequest s =ᵇ 7 ⇒ row (matches s 0 0 0 CONTROL) (Asks GetCapabilities) ∣
-    bRequest s =ᵇ 64 ⇒ row (matches s 0 0 0 1) (Asks IndicatorPulse) ∣
-    bRequest s =ᵇ 128 ⇒ row (matches s 2 127 0 3) (Asks (ReadStatusByte (wValue s))) ∣
-    bRequest s =ᵇ 160 ⇒ row (matches s 0 1 0 1) (Asks (RenControl (wValue s))) ∣
-    bRequest s =ᵇ 161 ⇒ row (matches s 0 0 0 1) (Asks GoToLocal) ∣
-    bRequest s =ᵇ 162 ⇒ row (matches s 0 0 0 1) (Asks LocalLockout) ∣ [])
-    NoRow
+    found s
+    (bRequest≡ 5 wValue≡ 0 to 0 wIndex≡ 0 wLength≡ 1 ▹ (λ _. Asks InitiateClear) ∣
+    bRequest≡ 6 wValue≡ 0 to 0 wIndex≡ 0 wLength≡ 2 ▹ (λ _. Asks CheckClearStatus) ∣
+    bRequest≡ 7 wValue≡ 0 to 0 wIndex≡ 0 wLength≡ CONTROL ▹ (λ _. Asks GetCapabilities) ∣
+    bRequest≡ 64 wValue≡ 0 to 0 wIndex≡ 0 wLength≡ 1 ▹ (λ _. Asks IndicatorPulse) ∣
+    bRequest≡ 128 wValue≡ 2 to 127 wIndex≡ 0 wLength≡ 3 ▹ (λ tag. Asks (ReadStatusByte tag)) ∣
+    bRequest≡ 160 wValue≡ 0 to 1 wIndex≡ 0 wLength≡ 1 ▹ (λ ren. Asks (RenControl ren)) ∣
+    bRequest≡ 161 wValue≡ 0 to 0 wIndex≡ 0 wLength≡ 1 ▹ (λ _. Asks GoToLocal) ∣
+    bRequest≡ 162 wValue≡ 0 to 0 wIndex≡ 0 wLength≡ 1 ▹ (λ _. Asks LocalLockout) ∣ [])
 
 -- "02 1, 02 3 CLEAR_, SET_FEATURE halt, by endpoint"
 unfoldable pub toFeature : List ℕ → Setup
@@ -101,7 +123,7 @@ toStatus s = first (bRequest s =ᵇ 0 ⇒ byEndpoint s 2 GetStatus ∣ []) NoRow
 
 -- "00 9 SET_CONFIGURATION; wValue 0 or 1"
 unfoldable pub toDevice : List ℕ → Setup
-toDevice s = first (bRequest s =ᵇ 9 ⇒ row (matches s 0 1 0 0) (Configure (wValue s)) ∣ []) NoRow
+toDevice s = found s (bRequest≡ 9 wValue≡ 0 to 1 wIndex≡ 0 wLength≡ 0 ▹ (λ value. Configure value) ∣ [])
 
 -- the request type first, then bRequest
 unfoldable pub readSetup : List ℕ → Setup

@@ -1,5 +1,17 @@
 // What a Bulk-OUT header and a setup packet can say.
 
+// The endpoints, by their addresses.
+pub const BULK_OUT: u8 = 0x01;
+
+pub const BULK_IN: u8 = 0x82;
+
+pub const INTERRUPT_IN: u8 = 0x83;
+
+// Bytes of a setup packet, and of the longest answer to one.
+pub const SETUP: usize = 8;
+
+pub const CONTROL: usize = 24;
+
 // A header that has no fault of its own. `end` is 1 with EOM, `enabled` is 1 with TermCharEnabled, else each is 0; without it `term` is 0.
 pub enum Header {
     Message {

@@ -13,14 +13,29 @@ ghost use mathlib.Core.Path.{_≡_};
 ghost use Prim.Native.Nat.{ℕ, _≤_};
 ghost use lib.ListN.{length};
 ghost use Rattle.wire.specs.Bytes.{into};
-ghost use Rattle.wire.specs.Header.{readMessage, readRequest, readTrigger, readHeader, requestEnd, inHeader};
+ghost use Rattle.wire.specs.Header.{HEADER, readMessage, readRequest, readTrigger, readHeader, inHeader};
 
 // Bytes of a header.
 pub const HEADER: usize = 12;
 
-// 1, DEV_DEP_MSG_OUT.
+// A packet has a multiple of so many bytes.
+pub const FOUR: usize = 4;
+
+// The kinds of header.
+const DEV_DEP_MSG_OUT: u8 = 1;
+
+const REQUEST_DEV_DEP_MSG_IN: u8 = 2;
+
+const TRIGGER: u8 = 128;
+
+// The bits of the attributes.
+pub const D0: u8 = 1;
+
+pub const D1: u8 = 2;
+
+// DEV_DEP_MSG_OUT.
 fn read_message(s: &[u8]) -> Read
-    requires { ⌜ 12 ≤ length (now s) ⌝ }
+    requires { ⌜ HEADER ≤ length (now s) ⌝ }
     ensures { λ r. ⌜ r ≡ readMessage (now (s .entry)) ⌝ }
 {
     if s[3] != 0 {
@@ -31,7 +46,7 @@ fn read_message(s: &[u8]) -> Read
         return Read::Fault { number: RESERVED };
     }
     let end = s[8];
-    if 1 < end {
+    if D0 < end {
         return Read::Fault { number: RESERVED };
     }
     if all_zero(s, 9, HEADER) {
@@ -46,27 +61,9 @@ fn read_message(s: &[u8]) -> Read
     Read::Fault { number: RESERVED }
 }
 
-// The two reserved bytes of a REQUEST, of which all else is read.
-fn request_end(s: &[u8], size: u32, enabled: u8, term: u8) -> Read
-    requires { ⌜ 12 ≤ length (now s) ⌝ }
-    ensures { λ r. ⌜ r ≡ requestEnd (now (s .entry)) size enabled term ⌝ }
-{
-    if all_zero(s, 10, HEADER) {
-        return Read::Good {
-            header: Header::Request {
-                tag: s[1],
-                size,
-                enabled,
-                term,
-            },
-        };
-    }
-    Read::Fault { number: RESERVED }
-}
-
-// 2, REQUEST_DEV_DEP_MSG_IN.
+// REQUEST_DEV_DEP_MSG_IN.
 fn read_request(s: &[u8]) -> Read
-    requires { ⌜ 12 ≤ length (now s) ⌝ }
+    requires { ⌜ HEADER ≤ length (now s) ⌝ }
     ensures { λ r. ⌜ r ≡ readRequest (now (s .entry)) ⌝ }
 {
     if s[3] != 0 {
@@ -76,17 +73,34 @@ fn read_request(s: &[u8]) -> Read
     if size == 0 {
         return Read::Fault { number: RESERVED };
     }
+    if !all_zero(s, 10, HEADER) {
+        return Read::Fault { number: RESERVED };
+    }
     let bits = s[8];
     match bits {
-        0 => request_end(s, size, 0, 0),
-        2 => request_end(s, size, 1, s[9]),
+        0 => Read::Good {
+            header: Header::Request {
+                tag: s[1],
+                size,
+                enabled: 0,
+                term: 0,
+            },
+        },
+        D1 => Read::Good {
+            header: Header::Request {
+                tag: s[1],
+                size,
+                enabled: 1,
+                term: s[9],
+            },
+        },
         _ => Read::Fault { number: RESERVED },
     }
 }
 
-// 128, TRIGGER.
+// TRIGGER.
 fn read_trigger(s: &[u8]) -> Read
-    requires { ⌜ 12 ≤ length (now s) ⌝ }
+    requires { ⌜ HEADER ≤ length (now s) ⌝ }
     ensures { λ r. ⌜ r ≡ readTrigger (now (s .entry)) ⌝ }
 {
     if all_zero(s, 3, HEADER) {
@@ -102,7 +116,7 @@ pub fn read_header(s: &[u8]) -> Read
     ensures { λ r. ⌜ r ≡ readHeader (now (s .entry)) ⌝ }
 {
     let n = s.len();
-    if n % 4 != 0 {
+    if n % FOUR != 0 {
         return Read::Fault {
             number: NOT_IN_FOURS,
         };
@@ -121,9 +135,9 @@ pub fn read_header(s: &[u8]) -> Read
     }
     let id = s[0];
     match id {
-        1 => read_message(s),
-        2 => read_request(s),
-        128 => read_trigger(s),
+        DEV_DEP_MSG_OUT => read_message(s),
+        REQUEST_DEV_DEP_MSG_IN => read_request(s),
+        TRIGGER => read_trigger(s),
         _ => Read::Fault {
             number: UNKNOWN_MSGID,
         },
@@ -132,11 +146,11 @@ pub fn read_header(s: &[u8]) -> Read
 
 // A Bulk-IN header in the first 12 bytes; every other byte stays.
 pub fn write_header(buf: &mut [u8], tag: u8, n: u32, attributes: u8)
-    requires { ⌜ 12 ≤ length (now buf) ⌝ }
+    requires { ⌜ HEADER ≤ length (now buf) ⌝ }
     ensures { λ _. ⌜ now (buf .exit) ≡ into (inHeader tag n attributes) (now (buf .entry)) ⌝ }
 {
     let size = bytes_of(n);
-    buf[0] = 2;
+    buf[0] = REQUEST_DEV_DEP_MSG_IN;
     buf[1] = tag;
     buf[2] = 255 - tag;
     buf[3] = 0;

@@ -19,7 +19,8 @@ offer-spec =
     let r = offer-room (a .u .now) _ [] (record { verdict = record { number = 0; tells = 0 }; len = 0 }) (a .bytes .now) is (c .before .if1 .left) in (omega arith, omega arith))
     (λ c.
     let a = c .before .before .before .before .before .before .before .args in
-    let r = offer-room (a .u .now) _ [] (record { verdict = record { number = 0; tells = 0 }; len = 0 }) (a .bytes .now) (c .before .before .before .before .offer-number .ensures) (c .before .before .before .if1 .left) in
+    let r = offer-room (a .u .now) _ [] (record { verdict = record { number = 0; tells = 0 }; len = 0 }) (a .bytes .now) (c .before .before .before .before .offer-number .ensures)
+    (c .before .before .before .if1 .left) in
     search needs)
     (λ c κs. search needs) (λ c κs. search needs)
     (λ c.

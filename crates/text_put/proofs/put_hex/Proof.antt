@@ -1,20 +1,13 @@
--- `words::text::put_hex` is safe and ends: the index stays within the bytes, and the output keeps its length.
-use Prim.Native.Nat.{_≤_, _-_}
-use mathlib.Core.Path.{_≡_}
+-- `text_put::put_hex` meets its contract.
 use borrow.Author.Needs.{needs}
-use lib.ListN.{length}
+use Rattle.text_put.specs.Numbers.{hexText}
+use Rattle.text_put.proofs.Text.{typing}
 use Rattle.text_put.proofs.put_hex.Statement.{statement}
 use Rattle.text_put.proofs.put_hex.Tie as tie
 
-abbrev Inv-loop : tie.InvT-loop
-Inv-loop out₀ at bytes end₀ i₀ out end i = (i ≤ length bytes) × (length out ≡ length out₀)
-
-abbrev μ-loop : tie.MeasureT-loop
-μ-loop out₀ at bytes end₀ i₀ out end i = length bytes - i
-
 pub put-hex-spec : {M : Type 1} → statement M
+unfolding hexText
 put-hex-spec =
     tie.close
     (tie.spec
-    Inv-loop μ-loop (λ c κs. search needs) (λ c. search needs) (λ c. search needs) (λ c. search needs) (λ c. search needs) (λ c κs. search needs)
-    (λ c. search needs) (λ c. search needs) (λ c. search needs) (λ c. search needs) (λ c. search needs))
+    (λ c κs. search needs) (λ c. search needs) (λ c. search typing depth 12) (λ c κs. search needs) (λ c. search needs) (λ c. search typing depth 12))

@@ -1,10 +1,10 @@
-use Rattle.c_bytes.specs.Flat.{kindOf, countOf}
+use Rattle.c_bytes.specs.Layout.{splitNumber, countOf}
 use borrow.Author.Needs.{needs}
 use Rattle.c_bytes.proofs.bytes.split_bytes.Statement.{statement}
 use Rattle.c_bytes.proofs.bytes.split_bytes.Tie as tie
 
 pub split-bytes-spec : {M : Type 1} → statement M
-unfolding kindOf countOf
+unfolding splitNumber countOf
 split-bytes-spec =
     tie.close
     (tie.spec

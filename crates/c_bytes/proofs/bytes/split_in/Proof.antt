@@ -1,5 +1,5 @@
 use Rattle.c_bytes.proofs.Numbered.{past-three}
-use Rattle.c_bytes.specs.Flat.{splitOf}
+use Rattle.c_bytes.specs.Layout.{splitOf}
 use borrow.Author.Needs.{needs}
 use mathlib.Core.Path.{refl}
 use Rattle.c_bytes.proofs.bytes.split_in.Statement.{statement}

@@ -1,5 +1,5 @@
 use Rattle.c_parts.proofs.Pastes.{none, piece, paste-pieces}
-use Rattle.c_bytes.specs.Flat.{IN-REPLY-AT, inReplyBytes, inTransferBytes}
+use Rattle.c_bytes.specs.Layout.{IN-REPLY-AT, inReplyBytes, inTransferBytes}
 use borrow.Author.Needs.{needs}
 use mathlib.Core.List.{[], _∷_}
 use native.Mathlib.Omega.{arith}

@@ -1,5 +1,5 @@
 use Rattle.c_parts.proofs.Pastes.{none, piece, paste-pieces}
-use Rattle.c_bytes.specs.Flat.{OUT-MESSAGE-AT, outMessageBytes, outTransferBytes}
+use Rattle.c_bytes.specs.Layout.{OUT-MESSAGE-AT, outMessageBytes, outTransferBytes}
 use borrow.Author.Needs.{needs}
 use mathlib.Core.List.{[], _∷_}
 use native.Mathlib.Omega.{arith}

@@ -1,4 +1,4 @@
-use Rattle.c_bytes.specs.Flat.{isUnit}
+use Rattle.c_bytes.specs.Layout.{isUnit}
 use Rattle.rules.proofs.Choice.{picks}
 use borrow.Author.Needs.{needs}
 use Rattle.c_parts.proofs.read.is_unit.Statement.{statement}

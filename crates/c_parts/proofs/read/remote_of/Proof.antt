@@ -1,5 +1,5 @@
 use Rattle.c_bytes.proofs.Numbered.{past-three}
-use Rattle.c_bytes.specs.Flat.{stateIn, remoteOf}
+use Rattle.c_bytes.specs.Layout.{stateIn, remoteOf}
 use borrow.Author.Needs.{needs}
 use mathlib.Core.Path.{refl}
 use Rattle.c_parts.proofs.read.remote_of.Statement.{statement}

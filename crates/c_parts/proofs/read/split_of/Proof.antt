@@ -1,4 +1,4 @@
-use Rattle.c_bytes.specs.Flat.{stateIn}
+use Rattle.c_bytes.specs.Layout.{stateIn}
 use borrow.Author.Needs.{needs}
 use Rattle.c_parts.proofs.read.split_of.Statement.{statement}
 use Rattle.c_parts.proofs.read.split_of.Tie as tie

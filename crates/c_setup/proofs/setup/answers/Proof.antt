@@ -19,4 +19,4 @@ answers-spec =
     let c12 = c5 .before .before .before .before .before .before .before in
     let a = c12 .args in
     let e = rw (c5 .before .before .state-of .ensures) at (c5 .reply .ensures) in
-    replied (a .u .now) (a .s .now) (a .b .now) _ _ _ (a .row) (c12 .pre) _ (e .0) (e .1) (c .carry .ensures) refl))
+    replied (a .u .now) (a .s .now) (a .b .now) _ _ _ (a .row) (c12 .pre) _ (e .0) (e .1) (c .put-effect .ensures) refl))

@@ -31,6 +31,6 @@ first-packet-spec =
     let p = c10 .before .before .before .before .pre in
     let r = p .1 .reply in
     let n = c10 .widened .ensures .0 ∙ ap (λ (b : BulkIn). b .transfer .left) (c10 .before .fixed .ensures) in
-    let e = rw (c10 .before .fixed .ensures) at (c .before .before .carry .ensures) in
+    let e = rw (c10 .before .fixed .ensures) at (c .before .before .put-data .ensures) in
     let w = rw (c6 .before .before .before .end-mark .ensures .0, c6 .before .before .term-mark .ensures .0) at (c6 .write-header .ensures) in
     first-cuts (a .p) (a .b) (a .reply .now) (a .buf .now) _ _ (omega arith) _ _ (p .0) (p .2 .0) n w (e .0) (e .1)))

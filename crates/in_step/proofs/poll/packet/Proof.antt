@@ -16,5 +16,5 @@ packet-spec =
     let p = c .before .before .before .before .before .before .before .before .pre in
     let n = c .before .before .before .before .if1 .left in
     let g = p .0 .sending n in
-    let e = c .before .before .carry .ensures in
+    let e = c .before .before .put-data .ensures in
     next-cuts (a .p) (a .b) (a .reply .now) (a .buf .now) _ _ (let r = g .reply in omega arith) n (g .left) (e .0) (e .1)))

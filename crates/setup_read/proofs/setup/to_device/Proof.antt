@@ -12,6 +12,10 @@ unfolding toDevice
 to-device-spec =
     tie.close
     (tie.spec
-    (λ c. search needs) (λ c κs. search needs) (λ c. search needs)
-    (λ c. rw (← (tag-row (c .before .before .before .before .before .before .args .s .now) 0 1 0 0 Configure (omega arith))) (search picks depth 10))
-    (λ c. search picks depth 10) (λ c. search picks depth 8))
+    (λ c. search needs) (λ c. search needs) (λ c κs. search needs) (λ c κs. search needs)
+    (λ c. rw (
+      c .configuration .ensures,
+      c .before .matches .ensures,
+      tag-row (c .before .before .before .before .before .before .args .s .now) 0 1 0 0 Configure (omega arith),
+    ) (search picks depth 10))
+    (λ c. search picks depth 8))

@@ -10,5 +10,5 @@ pub abort-in-status-spec : {M : Type 1} → statement M
 abort-in-status-spec =
     tie.close
     (tie.spec
-    (λ c κs. search needs) (λ c. c .says-abort .ensures ∙ ap controlOf (abort-pending _ _ (eq-eqb _ _ (c .before .if1 .taken)))) (λ c κs. search needs)
+    (λ c κs. search needs) (λ c. c .reacts-abort .ensures ∙ ap controlOf (abort-pending _ _ (eq-eqb _ _ (c .before .if1 .taken)))) (λ c κs. search needs)
     (λ c. c .abort-ends .ensures ∙ ap controlOf (abort-ended _ _ (ne-eqb _ _ (c .before .if1 .left)))))

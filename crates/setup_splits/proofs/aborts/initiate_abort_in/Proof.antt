@@ -10,10 +10,10 @@ initiate-abort-in-spec =
     tie.close
     (tie.spec
     (λ c κs. search needs) (λ c κs. search needs) (λ c κs. search needs) (λ c κs. search needs)
-    (λ c. c .says-2 .ensures ∙ rw (c .before .before .before .before .in-tag .ensures)
+    (λ c. c .reacts-2 .ensures ∙ rw (c .before .before .before .before .in-tag .ensures)
     (ap controlOf (abort-in-refused _ _ _ (rw (c .before .before .before .is-open-in .ensures, c .before .before .before .before .in-tag .ensures)
     at (c .before .before .abort-gate .ensures)) (c .before .if1 .taken))))
     (λ c κs. search needs)
-    (λ c. c .says-22 .ensures ∙ rw (c .before .before .before .before .in-tag .ensures)
+    (λ c. c .reacts-22 .ensures ∙ rw (c .before .before .before .before .in-tag .ensures)
     (ap controlOf (abort-in-done _ _ _ (rw (c .before .before .before .is-open-in .ensures, c .before .before .before .before .in-tag .ensures)
     at (c .before .before .abort-gate .ensures)) (c .before .if1 .left)))))

@@ -10,6 +10,6 @@ initiate-abort-out-spec =
     tie.close
     (tie.spec
     (λ c κs. search needs) (λ c κs. search needs) (λ c κs. search needs)
-    (λ c. c .says-2 .ensures ∙ ap controlOf (abort-out-refused _ _ _ (rw (c .before .before .before .is-open-out .ensures) at (c .before .before .abort-gate .ensures)) (c .before .if1 .taken)))
+    (λ c. c .reacts-2 .ensures ∙ ap controlOf (abort-out-refused _ _ _ (rw (c .before .before .before .is-open-out .ensures) at (c .before .before .abort-gate .ensures)) (c .before .if1 .taken)))
     (λ c κs. search needs)
-    (λ c. c .says-22 .ensures ∙ ap controlOf (abort-out-done _ _ _ (rw (c .before .before .before .is-open-out .ensures) at (c .before .before .abort-gate .ensures)) (c .before .if1 .left))))
+    (λ c. c .reacts-22 .ensures ∙ ap controlOf (abort-out-done _ _ _ (rw (c .before .before .before .is-open-out .ensures) at (c .before .before .abort-gate .ensures)) (c .before .if1 .left))))

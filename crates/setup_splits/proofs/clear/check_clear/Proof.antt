@@ -11,9 +11,10 @@ check-clear-spec =
     tie.close
     (tie.spec
     (λ c κs. search needs) (λ c κs. search needs)
-    (λ c. c .says-2 .ensures ∙ ap controlOf (clear-pending _ _ (sym (c .before .before .before .before .is-clear .ensures) ∙ c .before .before .before .if1 .taken)
+    (λ c. c .reacts-2 .ensures ∙ ap controlOf (clear-pending _ _ (sym (c .before .before .before .before .is-clear .ensures) ∙ c .before .before .before .if1 .taken)
     (eq-eqb _ _ (c .before .if2 .taken))))
     (λ c κs. search needs)
-    (λ c. c .says-22 .ensures ∙ ap controlOf (clear-done _ _ (sym (c .before .before .before .before .is-clear .ensures) ∙ c .before .before .before .if1 .taken) (ne-eqb _ _ (c .before .if2 .left))))
+    (λ c. c .reacts-22 .ensures ∙ ap controlOf (clear-done _ _ (sym (c .before .before .before .before .is-clear .ensures) ∙ c .before .before .before .if1 .taken)
+    (ne-eqb _ _ (c .before .if2 .left))))
     (λ c κs. search needs)
-    (λ c. c .says-23 .ensures ∙ ap controlOf (clear-wrong _ _ (sym (c .before .before .is-clear .ensures) ∙ c .before .if1 .left))))
+    (λ c. c .reacts-23 .ensures ∙ ap controlOf (clear-wrong _ _ (sym (c .before .before .is-clear .ensures) ∙ c .before .if1 .left))))

@@ -10,5 +10,5 @@ initiate-clear-spec =
     tie.close
     (tie.spec
     (λ c κs. search needs) (λ c κs. search needs)
-    (λ c. c .says-1 .ensures ∙ ap controlOf (clear-busy _ (sym (c .before .before .is-clear .ensures) ∙ c .before .if1 .taken))) (λ c κs. search needs)
-    (λ c. c .says-12 .ensures ∙ ap controlOf (clear-begins _ (sym (c .before .before .is-clear .ensures) ∙ c .before .if1 .left))))
+    (λ c. c .reacts-1 .ensures ∙ ap controlOf (clear-busy _ (sym (c .before .before .is-clear .ensures) ∙ c .before .if1 .taken))) (λ c κs. search needs)
+    (λ c. c .reacts-12 .ensures ∙ ap controlOf (clear-begins _ (sym (c .before .before .is-clear .ensures) ∙ c .before .if1 .left))))

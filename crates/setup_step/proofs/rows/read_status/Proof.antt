@@ -12,6 +12,6 @@ read-status-spec =
     tie.close
     (tie.spec
     (λ c κs. search needs) (λ c κs. search needs)
-    (λ c. c .says-3 .ensures ∙ ap controlOf (pick-true _ _ _ _ (sym (c .before .before .is-waiting .ensures) ∙ c .before .if1 .taken) refl))
+    (λ c. c .reacts-3 .ensures ∙ ap controlOf (pick-true _ _ _ _ (sym (c .before .before .is-waiting .ensures) ∙ c .before .if1 .taken) refl))
     (λ c κs. search needs)
-    (λ c. c .says-32 .ensures ∙ ap controlOf (pick-false _ _ _ _ (sym (c .before .before .is-waiting .ensures) ∙ c .before .if1 .left) refl)))
+    (λ c. c .reacts-32 .ensures ∙ ap controlOf (pick-false _ _ _ _ (sym (c .before .before .is-waiting .ensures) ∙ c .before .if1 .left) refl)))

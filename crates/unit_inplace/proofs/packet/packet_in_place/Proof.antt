@@ -1,5 +1,8 @@
--- `packet_in_place` meets its contract: a walk of its MIR, by hand. The borrow is opened; the field `message` is cut out of the unit in memory and lent for a lifetime of the call; `packet_step` is called with it and with a state made of copies of the other three; the field comes back at its last value; the three are stored; and the borrow is closed at the new unit.
--- What the machine does is walked in `Walks`, over any types; here is what the logic does around it, with nothing of the code but its call. It names the unit's five fields and no other; all that it knows of `packet_step` is that it meets its contract.
+-- `packet_in_place` meets its contract: a walk of its MIR, by hand. The borrow is borrow-opens; the field `message` is cut out of the unit in memory and lent for a lifetime of
+-- the call; `packet_step` is called with it and with a state made of copies of the other three; the field comes back at its last value; the three are stored; and the borrow is
+-- closed at the new unit.
+-- What the machine does is walked in `Walks`, over any types; here is what the logic does around it, with nothing of the code but its call. It names the unit's five fields and no
+-- other; all that it knows of `packet_step` is that it meets its contract.
 -- Assumes nothing.
 use mathlib.Core.Path.{_≡_, refl, sym, ap}
 use Prim.Native.Nat.{ℕ, _+_}
@@ -19,7 +22,8 @@ use prog.Wp.{Heap, Calls, Loops, WpFn, Tables}
 use ghost.Atoms.{Atoms, sem}
 use contract.Monad.{Fun, fact}
 use contract.Running.{givenOf, tables, tablesOf}
-use types.Kit.{Given, Item, ‵, raw, mean, some, later, _⊛_, ⋆, _$_, _∵_, !, qed, by, move, drop, use1, use2, use3, split, join, pick, fsplit, fjoin, fjoin3, feqI, suffices, frame, updating, now as at-once, await, done}
+use types.Kit.{Given, Item, ‵, raw, mean, some, later, _⊛_, ⋆, _$_, _∵_, !, qed, by, move, drop, use1, use2, use3, split}
+use types.Kit.{join, pick, fsplit, fjoin, fjoin3, feqI, suffices, frame, updating, now as at-once, await, done}
 use types.SemTy.{Body}
 use types.Tokens.{lft-new, lft-end}
 use sound.WpLaws.{FmC, fmOf, WpFn-mono}
@@ -50,9 +54,9 @@ use Rattle.unit.specs.declared.types.Unit.{Unit as U}
 use Rattle.port.specs.declared.types.State.{State}
 use Rattle.port.specs.declared.types.Plan.{Plan}
 use Rattle.unit.proofs.Steps.{after-plan}
-use Rattle.unit_walks.proofs.Walks.{taken, Answer, Run, walks-nine}
+use Rattle.unit_walks.proofs.Walks.{taken, Answering, Run, walks-nine}
 use Rattle.unit_walks.proofs.Fields.{unit-message, unit-small, unit-split, unit-remote, plan-state, state-small, state-split, state-remote, plan-verdict}
-use Rattle.unit_walks.proofs.Borrow.{Arr, St, vals, svals, stateOf, Open, Opened, Closed, opened, closed, called}
+use Rattle.unit_walks.proofs.Borrow.{Arr, St, vals, svals, stateOf, Open, Opened, Closed, borrow-opens, closed, called}
 use Rattle.unit_inplace.proofs.AtExit.{altered}
 use Rattle.unit.proofs.types.Unit as T
 use Rattle.unit.proofs.types.Unit.Laws as T′
@@ -93,12 +97,15 @@ module _ {M : Type 1} (𝓤 : URA M) (H : Heap 𝓤) (A : Atoms 𝓤) (W : Given
   kept = kept-field T.the-type T′.the-laws 0 0 M 𝓤 H A (T.struct .as-values h) b o
 
   cut-out : ent 𝓤 (sem 𝓤 H A (partAt T.the-row fullShare h b o)) (sep 𝓤 (sem 𝓤 H A (partAt Arr fullShare (h .message) b (o + 0))) (mean 𝓤 H A kept))
-  cut-out = record-apart-as T.the-type T′.the-laws 0 0 Arr (λ x. x) (λ x. x) (λ y b o. list-same u8 1024 fullShare y b o) (λ y b o. sym (list-same u8 1024 fullShare y b o)) (T.struct .as-values) (T.struct .Ghost) (T.struct .make) (λ v. tt) (λ x. refl) (λ v z. refl) 𝓤 H A W refl refl h b o
+  cut-out = record-apart-as T.the-type T′.the-laws 0 0 Arr (λ x. x) (λ x. x) (λ y b o. list-same u8 1024 fullShare y b o) (λ y b o. sym (list-same u8 1024 fullShare y b o))
+      (T.struct .as-values) (T.struct .Ghost) (T.struct .make) (λ v. tt) (λ x. refl) (λ v z. refl) 𝓤 H A W refl refl h b o
 
   put-back : (m : List ℕ) → ent 𝓤 (sep 𝓤 (sem 𝓤 H A (partAt Arr fullShare m b (o + 0))) (mean 𝓤 H A kept)) (sem 𝓤 H A (partAt T.the-row fullShare (with-message h m) b o))
-  put-back m = record-fill-as T.the-type T′.the-laws 0 0 Arr (λ x. x) (λ x. x) (λ y b o. list-same u8 1024 fullShare y b o) (λ y b o. sym (list-same u8 1024 fullShare y b o)) (T.struct .as-values) (T.struct .Ghost) (T.struct .make) (λ v. tt) (λ x. refl) (λ v z. refl) refl M 𝓤 H A W h m b o
+  put-back m = record-fill-as T.the-type T′.the-laws 0 0 Arr (λ x. x) (λ x. x) (λ y b o. list-same u8 1024 fullShare y b o) (λ y b o. sym (list-same u8 1024 fullShare y b o))
+      (T.struct .as-values) (T.struct .Ghost) (T.struct .make) (λ v. tt) (λ x. refl) (λ v z. refl) refl M 𝓤 H A W h m b o
 
-module _ {M : Type 1} (𝓤 : URA M) (H : Heap 𝓤) (A : Atoms 𝓤) (W : Given 𝓤 H A) (at-mem : Memory → SProp 𝓤) (run : Routine → Fun 𝓤) (κ κ′ : Lft) (q q′ : Share) (b o : ℕ) (γ : GName) (h : U) (s : RefT (List ℕ)) where
+module _ {M : Type 1} (𝓤 : URA M) (H : Heap 𝓤) (A : Atoms 𝓤) (W : Given 𝓤 H A) (at-mem : Memory → SProp 𝓤) (run : Routine → Fun 𝓤) (κ κ′ : Lft) (q q′ : Share) (b o : ℕ) (γ : GName) (h : U)
+    (s : RefT (List ℕ)) where
   -- the slice's machine value
   abbrev v : Val
   v = sliceVal (s .ptr) (length (s .now))
@@ -145,7 +152,8 @@ module _ {M : Type 1} (𝓤 : URA M) (H : Heap 𝓤) (A : Atoms 𝓤) (W : Given
 
   -- what `packet_step` ensures
   abbrev Says : Plan → List ℕ → Type 0
-  Says r m = (r ≡ choose (is-sound (stateOf h)) (outPlan (stateOf h) (now s)) (plain-plan (stateOf h) (only-number 1))) × (m ≡ paste (h .message) (h .small .bulkout .message .held) (dropped (r .from) (now s)) (r .count))
+  Says r m = (r ≡ choose (is-sound (stateOf h)) (outPlan (stateOf h) (now s)) (plain-plan (stateOf h) (only-number 1)))
+      × (m ≡ paste (h .message) (h .small .bulkout .message .held) (dropped (r .from) (now s)) (r .count))
 
   exits : (r : Plan) (m : List ℕ) → Says r m → Is N.the-row (r .verdict) (res r ∷ []) → ent 𝓤 (⋆ 𝓤 H A (Closed 𝓤 κ q γ b o (after-plan h r m) Token (‵ Own))) (Post (res r))
   exits r m e is-r =
@@ -163,18 +171,22 @@ module _ {M : Type 1} (𝓤 : URA M) (H : Heap 𝓤) (A : Atoms 𝓤) (W : Given
   Kept ν δ = ‵ Own ∷ ‵ (flent (ν ∷ []) (Body (mem Arr) b (o + 0) δ)) ∷ kept 𝓤 H A W h b o ∷ Open 𝓤 κ q γ b o h
 
   -- once it has answered, ν is ended, the message comes back at its last value, and the unit is whole again
-  returned : (ν : ℕ) (δ : GName) (w : Val) → ent 𝓤 (⋆ 𝓤 H A (raw (Core 𝓤 H A at-mem run .post (to ν δ) w) ∷ Kept ν δ)) (mean 𝓤 H A (Answer 𝓤 H A T′.mir P′.mir b o End w))
+  returned : (ν : ℕ) (δ : GName) (w : Val) → ent 𝓤 (⋆ 𝓤 H A (raw (Core 𝓤 H A at-mem run .post (to ν δ) w) ∷ Kept ν δ)) (mean 𝓤 H A (Answering 𝓤 H A T′.mir P′.mir b o End w))
   returned ν δ w =
       qed W (raw (Core 𝓤 H A at-mem run .post (to ν δ) w) ∷ Kept ν δ) ∵ updating ! $
-      use1 W (later (some (λ (r : Plan). ((‵ (flft (ν ∷ []) fullShare) ⊛ Token) ⊛ ‵ (P.the-row .own r (w ∷ []))) ⊛ raw (ensured 𝓤 H A g.ended (g.clauses 𝓤 H A at-mem run) (ν ∷ [], (κ′, tt)) (args δ) tt r)))) (id⊢ 𝓤 _) $ await ! tt $ pick ! (λ r.
-      split ! $ move ! (1 ∷ []) $ use1 W (some (λ (zs : List ℕ × (Unit {0} × (Unit {0} × Unit {0}))). ‵ (lasts g.ended (ν ∷ [], (κ′, tt)) (args δ) zs) ⊛ raw (fact 𝓤 (Says r (zs .0))))) (id⊢ 𝓤 _) $ pick ! (λ zs.
+      use1 W (later
+      (some (λ (r : Plan). ((‵ (flft (ν ∷ []) fullShare) ⊛ Token) ⊛ ‵ (P.the-row .own r (w ∷ []))) ⊛ raw
+      (ensured 𝓤 H A g.ended (g.clauses 𝓤 H A at-mem run) (ν ∷ [], (κ′, tt)) (args δ) tt r)))) (id⊢ 𝓤 _) $ await ! tt $ pick ! (λ r.
+      split ! $ move ! (1 ∷ []) $ use1 W (some (λ (zs : List ℕ × (Unit {0} × (Unit {0} × Unit {0}))). ‵ (lasts g.ended (ν ∷ [], (κ′, tt)) (args δ) zs) ⊛ raw (fact 𝓤 (Says r (zs .0)))))
+      (id⊢ 𝓤 _) $ pick ! (λ zs.
       split ! $ move ! (1 ∷ []) $ heard ! (Says r (zs .0)) (λ e. fsplit ! $ move ! (1 ∷ []) $ drop ! $ move ! (1 ∷ []) $ split ! $ move ! (1 ∷ []) $
       -- [what the plan owns; the tokens; the message's last value; the slice; the lender's part; the rest of the unit; the open borrow; obs; auth]
       facts ! P.the-row (Is P.the-row) (shows 𝓤 H A P.the-row) r (w ∷ []) (λ is. split ! $ lft-end ! tt $
       move ! (0 ∷ 4 ∷ 2 ∷ []) $ use3 W (later (‵ (partAt Arr fullShare (zs .0) b (o + 0)))) (ref-back 𝓤 H A W Arr (ν ∷ []) δ (zs .0) b (o + 0)) $ await ! tt $
       move ! (0 ∷ 3 ∷ []) $ use2 W (‵ (partAt T.the-row fullShare (with-message h (zs .0)) b o)) (put-back 𝓤 H A W h b o (zs .0)) $ move ! (0 ∷ 3 ∷ 4 ∷ 5 ∷ []) $
       let fields = LL.owed P.the-type P′.the-laws r _ is in
-      by ! (closed 𝓤 κ q γ b o H A W P′.mir End h Token (‵ Own) (with-message h (zs .0)) (r .state) (vcons _ (vcons _ (vcons _ vnil))) w (fields .0) (LL.lawful P.the-type P′.the-laws 𝓤 H A W .typed r _ is .0) (ap only (LL.tells P.the-type P′.the-laws r _ is)) (W .laws .⇛-trans _)
+      by ! (closed 𝓤 κ q γ b o H A W P′.mir End h Token (‵ Own) (with-message h (zs .0)) (r .state) (vcons _ (vcons _ (vcons _ vnil))) w (fields .0)
+      (LL.lawful P.the-type P′.the-laws 𝓤 H A W .typed r _ is .0) (ap only (LL.tells P.the-type P′.the-laws r _ is)) (W .laws .⇛-trans _)
       (exits r (zs .0) e (fields .1 .0)))))))
 
   module _ (C : Calls 𝓤 H) (Λ : Loops 𝓤 H) (fm : FmC 𝓤 H (W .laws) C) (known : Triple 𝓤 (C #g) (Core 𝓤 H A at-mem run)) where
@@ -186,21 +198,25 @@ module _ {M : Type 1} (𝓤 : URA M) (H : Heap 𝓤) (A : Atoms 𝓤) (W : Given
     asks =
         qed W (‵ (St h) ∷ Opened 𝓤 κ q γ b o h h Token Slice) ∵ updating ! $ move ! (1 ∷ []) $
         use1 W (‵ (partAt Arr fullShare (h .message) b (o + 0)) ⊛ kept 𝓤 H A W h b o) (cut-out 𝓤 H A W h b o) $ split ! $ lft-new ! tt (λ ν. move ! (1 ∷ []) $
-        use1 W (later (some (λ (δ : GName). ‵ (Lent ν δ) ⊛ ‵ (flent (ν ∷ []) (Body (mem Arr) b (o + 0) δ))))) (lends-ref 𝓤 H A W Arr (named 0) (ν ∷ []) (h .message) b (o + 0)) $ await ! tt $ pick ! (λ δ. split ! $
+        use1 W (later (some (λ (δ : GName). ‵ (Lent ν δ) ⊛ ‵ (flent (ν ∷ []) (Body (mem Arr) b (o + 0) δ))))) (lends-ref 𝓤 H A W Arr (named 0) (ν ∷ []) (h .message) b (o + 0)) $ await ! tt $
+        pick ! (λ δ. split ! $
         -- [the message; the lender's part; ν's token; the rest of the unit; the state; the open borrow; obs; auth; the slice's token; the slice]
         move ! (0 ∷ 4 ∷ []) $ join ! $ move ! (2 ∷ 7 ∷ []) $ join ! $ move ! (0 ∷ 1 ∷ 7 ∷ []) $ use3 W (raw (Core 𝓤 H A at-mem run .pre (to ν δ)) ⊛ ‵ Own) (goes ν δ) $ split ! $ at-once ! $
         by ! (called 𝓤 H A W C fm #g (Core 𝓤 H A at-mem run) known (to ν δ) (Kept ν δ) _ (returned ν δ))))
 
     walk : Is (ShrSlice (named 1) κ′ u8) s (v ∷ []) → ent 𝓤 (onEntry 𝓤 H A f.signature (κ, (κ′, tt)) (q, (q′, tt)) x at) (WpFn 𝓤 H C Λ code.function (vptr b o ∷ v ∷ []) Post)
     walk p =
-        walks-nine 𝓤 H A W C Λ fm T′.mir P′.mir S′.mir L′.mir D′.mir R′.mir N′.mir code.function refl refl refl refl unit-message unit-small unit-split unit-remote plan-state state-small state-split state-remote plan-verdict
+        walks-nine 𝓤 H A W C Λ fm T′.mir P′.mir S′.mir L′.mir D′.mir R′.mir N′.mir code.function refl refl refl refl unit-message unit-small unit-split unit-remote plan-state state-small
+        state-split state-remote plan-verdict
         b o v (shr-slice-lawful 𝓤 H A W (named 1) κ′ u8 .typed s (v ∷ []) p .0) (fieldsOf (only (vals h))) Post
-        (‵ (flft κ q) ⊛ Token) (‵ (owns (MutRef (named 0) κ T.the-row ∷ ShrSlice (named 1) κ′ u8 ∷ []) x at)) (opened 𝓤 κ q γ b o H A W P′.mir End h Token Slice Call asks)
+        (‵ (flft κ q) ⊛ Token) (‵ (owns (MutRef (named 0) κ T.the-row ∷ ShrSlice (named 1) κ′ u8 ∷ []) x at)) (borrow-opens 𝓤 κ q γ b o H A W P′.mir End h Token Slice Call asks)
 
 module _ {M : Type 1} (𝓤 : URA M) (H : Heap 𝓤) (A : Atoms 𝓤) (W : Given 𝓤 H A) (mem : Memory → SProp 𝓤) (run : Routine → Fun 𝓤) where
   f-walks : (C : Calls 𝓤 H) (Λ : Loops 𝓤 H) → FmC 𝓤 H (W .laws) C → Triple 𝓤 (C #g) (Core 𝓤 H A mem run) → Walks 𝓤 H A f.ended stayed (WpFn 𝓤 H C Λ code.function) (f.clauses 𝓤 H A mem run)
-  f-walks C Λ fm known = walked 𝓤 H A f.ended stayed (f.clauses 𝓤 H A mem run) (WpFn 𝓤 H C Λ code.function) (λ κs. (ptr-vals, (slice-vals, tt))) (λ κs. (mut-tells (named 0) (κs .0) T.the-row, (shr-slice-tells (named 1) (κs .1 .0) u8, tt)))
-      (λ κs qs bounds a _ are. via 𝓤 _ (fst∗ 𝓤 _ (emp 𝓤)) (walk 𝓤 H A W mem run (κs .0) (κs .1 .0) (qs .0) (qs .1 .0) (a .0 .ptr .0) (a .0 .ptr .1) (a .0 .name) (a .0 .now) (a .1 .0) C Λ fm known (are .1 .0)))
+  f-walks C Λ fm known = walked 𝓤 H A f.ended stayed (f.clauses 𝓤 H A mem run) (WpFn 𝓤 H C Λ code.function) (λ κs. (ptr-vals, (slice-vals, tt)))
+      (λ κs. (mut-tells (named 0) (κs .0) T.the-row, (shr-slice-tells (named 1) (κs .1 .0) u8, tt)))
+      (λ κs qs bounds a _ are. via 𝓤 _ (fst∗ 𝓤 _ (emp 𝓤)) (walk 𝓤 H A W mem run (κs .0) (κs .1 .0) (qs .0) (qs .1 .0) (a .0 .ptr .0) (a .0 .ptr .1) (a .0 .name) (a .0 .now)
+      (a .1 .0) C Λ fm known (are .1 .0)))
 
 f-meets : {M : Type 1} (𝓤 : URA M) (H : Heap 𝓤) (A : Atoms 𝓤) → Given 𝓤 H A → (mem : Memory → SProp 𝓤) (run : Routine → Fun 𝓤) (𝓣 : Tables 𝓤 H) → Triple 𝓤 (𝓣 .C #g) (Core 𝓤 H A mem run)
     → Meets 𝓤 H A f.signature (WpFn 𝓤 H (𝓣 .C) (𝓣 .Λ) code.function) (f.spec 𝓤 H A mem run)

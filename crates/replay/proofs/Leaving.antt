@@ -1,0 +1,12 @@
+-- What code leaves, under another name of the same.
+-- Assumes nothing.
+use Prim.Native.Nat.{ℕ}
+use mathlib.Core.Path.{_≡_, ap, _∙_}
+use mathlib.Core.List.{List}
+use Rattle.text_put.specs.Text.{Page, typed}
+use Rattle.replay.specs.Play.{After}
+use Rattle.replay.specs.Played.{Leaves}
+use Rattle.replay.specs.declared.played.Played.{Played}
+
+pub leaving : {a b : After} {p : Page} {output : List ℕ} {r : Played} → b ≡ a → Leaves b p output r → Leaves a p output r
+leaving {p = p} e h = record { unit = h .unit ∙ ap (λ (x : After). x .unit) e; text = h .text ∙ ap (λ (x : After). typed p (x .text)) e }

@@ -1,0 +1,4 @@
+-- Laws that belong to no one function.
+pub mod Leaving
+pub mod Spilled
+pub mod Rooms

@@ -1,0 +1,3 @@
+-- What a line leaves.
+pub mod Play
+pub mod Played

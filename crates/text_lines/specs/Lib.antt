@@ -1,0 +1,4 @@
+-- What a line means.
+pub mod Lines
+pub mod Given
+pub mod Asked
