@@ -1,7 +1,9 @@
+# shellcheck shell=bash disable=SC2154 # `me`, `usage` and `called_from` are the script's
 # How a program in C is built over the library and run. Sourced, by scripts that have gone to the root of the repository and have set `me`,
 # the name that they speak under.
 #
-#     at_most_numbers N WORD..    where the words are something else than that many numbers, says `usage`, exit 2; `help` says it too, exit 0
+#     at_most_numbers N WORD..    where the words are something else than that many numbers, or a number has over 18 digits, says `usage`, exit 2;
+#                                 `help` says it too, exit 0
 #     find_tools                  the compiler for x86-64 and, on another processor, the emulator; or says what to install, exit 2
 #     find_library                the library, built where it is not there or is older than crates/; exit 1 where it cannot be
 #     find_kit                    the Rattle toolchain: `kit`, `kit_own` with what is of this machine, `kit_clang`; or says what to install, exit 2
@@ -11,7 +13,9 @@
 #
 # TEWENNOS_LIBRARY=PATH, an object or an archive for x86-64 with the functions of include/tewennos.h, stands in for the library: then
 # nothing is built, and the Rattle toolchain is not needed. A path that is not absolute is taken from the folder that the script is called
-# from, which it has in `called_from`.
+# from, which it has in `called_from`. What tools/progress.sh has comes with this file.
+
+. tools/progress.sh
 
 if [ -n "${TEWENNOS_LIBRARY:-}" ]; then
     case $TEWENNOS_LIBRARY in
@@ -34,7 +38,7 @@ at_most_numbers() { # N WORD..
     local word
     case "${2:-}" in help | --help | -h) echo "$usage" && exit ;; esac
     for word in "${@:2}"; do
-        case $word in *[!0-9]* | '') echo "$usage" >&2 && exit 2 ;; esac
+        case $word in *[!0-9]* | '' | ???????????????????*) echo "$me: '$word' is no number of 1 to 18 digits"$'\n'"$usage" >&2 && exit 2 ;; esac
     done
     if [ $# -gt $(($1 + 1)) ]; then echo "$usage" >&2 && exit 2; fi
 }
@@ -69,6 +73,10 @@ find_kit() {
 # The library is there, and nothing of what it is made from is newer.
 is_current() { [ -f "$library" ] && [ -z "$(find crates crates.txt -newer "$library" -print -quit)" ]; }
 
+# `rt staticlib` proves one crate after the other, and `rt check` as many at a time as there are processors.
+# shellcheck disable=SC2046 # names of crates have no blanks
+build_library() { rt check $(sed -n 's/^tewennos: *//p' crates.txt) && rt staticlib tewennos; }
+
 find_library() {
     library=${TEWENNOS_LIBRARY:-target/staticlib/libtewennos.a}
     if [ -n "${TEWENNOS_LIBRARY:-}" ]; then
@@ -77,10 +85,7 @@ find_library() {
     fi
     if is_current; then return; fi
     need_rt
-    echo "$me: proving and building the library, which takes some minutes the first time .." >&2
-    mkdir -p target/log
-    rt staticlib tewennos >target/log/library.out 2>&1 ||
-        { tail -n 5 target/log/library.out >&2 && stop "the library is not proved, or not built: target/log/library.out says why"; }
+    prove target/log/library.out tewennos build_library || stop "the library is not proved, or not built: see above"
     [ -f "$library" ] || stop "'rt staticlib tewennos' ended well and left no $library: target/log/library.out has what it said"
     # One that was current for rt keeps its old date.
     touch "$library"

@@ -83,6 +83,6 @@ END {
     for (a = 1; a <= asked_count; a++) {
         split("", entered)
         bytes = bound(asked[a])
-        print name[asked[a]], bytes < 0 ? "? " reason : bytes
+        print name[asked[a]], (bytes < 0 ? "? " reason : bytes)
     }
 }
