@@ -20,7 +20,7 @@ use Rattle.c_bytes.specs.Layout.{PORT, PORT-AT, REMOTE-AT, portBytes, remoteNum
 use Rattle.c_parts.proofs.Puts.{port-put, remote-put}
 use Rattle.c_promise.specs.Promise.{IsNumber, resultBytes, onBytes, answerOf, Returns}
 use Rattle.c_promise.specs.declared.types.TmcAnswer.{TmcAnswer}
-use Rattle.c_promise.proofs.Called.{holds, leaves, refusal, is-sound}
+use Rattle.c_promise.proofs.Called.{holds, returning, refusal, is-sound}
 use Rattle.c_promise.proofs.Made.{made-stored}
 
 module _ (packet : ℕ) (u′ : List ℕ) (r : TmcAnswer) where
@@ -48,7 +48,7 @@ module _ (u : List ℕ) (n : ℕ) (is : IsNumber u [] n) (u′ : List ℕ) (r : 
 
   pub reset-done : n ≡ 0 → u′ ≡ unitBytes (made (portOf (stateIn u) .setting) OFF) → r ≡ answerOf (numbered DONE) → Returns (onBytes u bus-reset) u′ r
   unfolding unitIn soundly busReset
-  reset-done z f a = leaves u (is .lent) bus-reset (is-sound is z) _ refl u′ r (record { stored = made-stored _ OFF; bytes = f }) a
+  reset-done z f a = returning u (is .lent) bus-reset (is-sound is z) _ refl u′ r (record { stored = made-stored _ OFF; bytes = f }) a
 
   pub suspend-done : n ≡ 0 → (v : List ℕ) → v ≡ paste u PORT-AT (portBytes (withRen (portOf (stateIn u)) OFF)) PORT → u′ ≡ paste v REMOTE-AT (remoteNumber Locs ∷ []) 1 → r ≡ answerOf (numbered DONE)
       → Returns (onBytes u (quiet bus-suspend)) u′ r
@@ -56,4 +56,4 @@ module _ (u : List ℕ) (n : ℕ) (is : IsNumber u [] n) (u′ : List ℕ) (r : 
   suspend-done z v f g a =
       let c = quiet bus-suspend in
       let e = is-sound is z in
-      leaves u (is .lent) c e _ refl u′ r (remote-put Locs .to (port-put (withRen (portOf (stateIn u)) OFF) .to (holds u (is .lent) e) f) g) a
+      returning u (is .lent) c e _ refl u′ r (remote-put Locs .to (port-put (withRen (portOf (stateIn u)) OFF) .to (holds u (is .lent) e) f) g) a

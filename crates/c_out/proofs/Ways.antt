@@ -1,4 +1,4 @@
--- What a Bulk-OUT packet leaves of a unit in bytes, by what it comes to.
+-- What a Bulk-OUT packet returning of a unit in bytes, by what it comes to.
 -- Assumes nothing.
 use Prim.Native.Nat.{ℕ, _+_, _≤_, min}
 use mathlib.Core.Path.{_≡_, refl, sym, ap, _∙_, subst}
@@ -31,7 +31,7 @@ use Rattle.c_bytes.specs.Sides.{OUT, outBytes}
 use Rattle.c_parts.proofs.Puts.{Holds, remote-put, out-message-put, out-transfer-put, out-recent-put, in-transfer-put, in-recent-put, out-put, message-put}
 use Rattle.c_promise.specs.Promise.{ComesTo, onBytes, answerOf, Returns}
 use Rattle.c_promise.specs.declared.types.TmcAnswer.{TmcAnswer}
-use Rattle.c_promise.proofs.Called.{state-sound, holds, leaves, stays, kept, sound-unit, comes}
+use Rattle.c_promise.proofs.Called.{state-sound, holds, returning, stays, kept, sound-unit, comes}
 
 -- the message and the transfer are all that data changes of a side
 absorbed-parts : (o : BulkOut) (count : ℕ) → holding o (absorbed o count .message) (absorbed o count .transfer) ≡ absorbed o count
@@ -80,9 +80,9 @@ module _ (u s : List ℕ) (u′ : List ℕ) (r : TmcAnswer) where
     before : Holds (unitIn u) u
     before = holds u (h .lent) (sound-unit h other)
 
-    left : Holds (withMessage (unitIn u) s (planned (stateIn u) x) .unit) u′ → r ≡ answerOf (withMessage (unitIn u) s (planned (stateIn u) x) .answer) → Returns (onBytes u call) u′ r
+    returned : Holds (withMessage (unitIn u) s (planned (stateIn u) x) .unit) u′ → r ≡ answerOf (withMessage (unitIn u) s (planned (stateIn u) x) .answer) → Returns (onBytes u call) u′ r
     unfolding unitIn soundly bulkOut outPlan
-    left k a = leaves u (h .lent) call (sound-unit h other) _ (ap (λ (y : Outcome). withMessage (unitIn u) s (planned (stateIn u) y)) (comes h other)) u′ r k a
+    returned k a = returning u (h .lent) call (sound-unit h other) _ (ap (λ (y : Outcome). withMessage (unitIn u) s (planned (stateIn u) y)) (comes h other)) u′ r k a
 
   -- with no data the message store stays
   plainly : (st : State) → Holds (withState (unitIn u) st) u′ → Holds (record { message = paste (unitIn u .message) (outOf (stateIn u) .message .held) s 0; reply = unitIn u .reply; state = st }) u′
@@ -90,7 +90,7 @@ module _ (u s : List ℕ) (u′ : List ℕ) (r : TmcAnswer) where
 
   pub halted : (n : ℕ) → ComesTo u s (Halt n) → u′ ≡ paste u OUT-MESSAGE-AT (outBytes (broken 1 (outOf (stateIn u)))) OUT → r ≡ answerOf (numbered n) → Returns (onBytes u call) u′ r
   unfolding unitIn planned
-  halted n h f a = left halt-other h (plainly _ (out-put (broken 1 (outOf (stateIn u))) .to (before halt-other h) f)) a
+  halted n h f a = returned halt-other h (plainly _ (out-put (broken 1 (outOf (stateIn u))) .to (before halt-other h) f)) a
 
   pub data-done : (count : ℕ) → ComesTo u s (Data count) → (v w : List ℕ) → v ≡ paste u (outOf (stateIn u) .message .held) s count
       → w ≡ paste v OUT-MESSAGE-AT (outMessageBytes (absorbed (outOf (stateIn u)) count .message)) OUT-MESSAGE
@@ -102,7 +102,7 @@ module _ (u s : List ℕ) (u′ : List ℕ) (r : TmcAnswer) where
       let o = outOf (stateIn u) in
       let stored = message-put (o .message .held) s count (omega (arith, fit .0 .0, fit .0 .1)) (fit .1) .to (before data-other h) f in
       let put = out-transfer-put (absorbed o count .transfer) .to (out-message-put (absorbed o count .message) .to stored g) k in
-      left data-other h
+      returned data-other h
       (subst (λ (p : BulkOut). Holds (record { message = paste (unitIn u .message) (o .message .held) s count; reply = unitIn u .reply; state = withOut (stateIn u) p }) u′)
       (absorbed-parts o count) put) a
 
@@ -124,7 +124,7 @@ module _ (u s : List ℕ) (u′ : List ℕ) (r : TmcAnswer) where
         let stored = message-put (o .message .held) (drop HEADER s) count (omega (arith, fit .0 .0, fit .0 .1)) (omega (arith, fit .1, length-drop HEADER s)) .to (before accept-other h) f in
         let put = out-transfer-put (absorbed opening count .transfer) .to (out-message-put (absorbed opening count .message) .to stored g) k in
         let whole = remote-put remote .to (out-recent-put tag .to put l) m in
-        left accept-other h
+        returned accept-other h
         (subst (λ (p : BulkOut). Holds
         (record { message = paste (unitIn u .message) (o .message .held) (drop HEADER s) count; reply = unitIn u .reply; state = withRemote (withOut (stateIn u) p) remote }) u′)
         (absorbed-parts opening count) whole) a
@@ -134,9 +134,9 @@ module _ (u s : List ℕ) (u′ : List ℕ) (r : TmcAnswer) where
       → r ≡ answerOf (numbered DONE) → Returns (onBytes u call) u′ r
   unfolding unitIn planned accepted
   request-done tag size enabled term count h v w f g k a =
-      left accept-other h (plainly _ (in-recent-put tag .to (in-transfer-put (askedIn tag (min size STORE) enabled term) .to (out-recent-put tag .to (before accept-other h) f) g) k)) a
+      returned accept-other h (plainly _ (in-recent-put tag .to (in-transfer-put (askedIn tag (min size STORE) enabled term) .to (out-recent-put tag .to (before accept-other h) f) g) k)) a
 
   pub trigger-done : (tag count : ℕ) → ComesTo u s (Accept (Trigger tag) count) → u′ ≡ paste u OUT-RECENT-AT (tag ∷ []) 1
       → r ≡ answerOf (record { verdict = record { number = DONE; tells = TELLS-TRIGGER }; bytes = [] }) → Returns (onBytes u call) u′ r
   unfolding unitIn planned accepted
-  trigger-done tag count h f a = left accept-other h (plainly _ (out-recent-put tag .to (before accept-other h) f)) a
+  trigger-done tag count h f a = returned accept-other h (plainly _ (out-recent-put tag .to (before accept-other h) f)) a

@@ -64,11 +64,11 @@ module _ (u : List ℕ) (lent : Lent u) where
 
       -- a result, whose unit the bytes hold at the end
       module _ (q : Result) (is : soundly (unitIn u) c ≡ q) (u′ : List ℕ) (r : TmcAnswer) (h : Holds (q .unit) u′) (a : r ≡ answerOf (q .answer)) where
-        pub leaves : Returns (onBytes u c) u′ r
-        leaves = subst (λ (l : BytesResult). Returns l u′ r) (sym (sound-left ∙ ap resultBytes is)) (record { unit = h .bytes; answer = a })
+        pub returning : Returns (onBytes u c) u′ r
+        returning = subst (λ (l : BytesResult). Returns l u′ r) (sym (sound-left ∙ ap resultBytes is)) (record { unit = h .bytes; answer = a })
 
         pub fills : (b b′ : List ℕ) → b′ ≡ into (q .answer .bytes) b → Fills (onBytes u c) b b′ u′ r
-        fills b b′ f = record { left = leaves; buffer = f ∙ ap (λ (l : BytesResult). into (l .answer .bytes) b) (sym (sound-left ∙ ap resultBytes is)) }
+        fills b b′ f = record { returned = returning; buffer = f ∙ ap (λ (l : BytesResult). into (l .answer .bytes) b) (sym (sound-left ∙ ap resultBytes is)) }
 
     -- nothing is written where a sound unit is refused with a number, and another with 1
     pub stays : (n : ℕ) → (isSoundUnit u ≡ true → soundly (unitIn u) c ≡ refused (unitIn u) n) → (isSoundUnit u ≡ false → n ≡ UNSOUND) → onBytes u c ≡ keptOf u n
@@ -84,7 +84,7 @@ module _ (u : List ℕ) (lent : Lent u) where
       kept e = subst (λ (l : BytesResult). Returns l u r) (sym e) (record { unit = refl; answer = a })
 
       pub kept-into : onBytes u c ≡ keptOf u n → (b : List ℕ) → Fills (onBytes u c) b b u r
-      kept-into e b = record { left = kept e; buffer = ap (λ (l : BytesResult). into (l .answer .bytes) b) (sym e) }
+      kept-into e b = record { returned = kept e; buffer = ap (λ (l : BytesResult). into (l .answer .bytes) b) (sym e) }
 
 -- ** what is decided over the bytes
 
@@ -116,11 +116,11 @@ module _ {u : List ℕ} {x n : ℕ} (h : Decided u x UNSOUND n) (z : n ≡ 0) wh
 -- a call whose rules are asked first: one applies, and it is refused; or the bytes are no sound unit's
 module _ (u : List ℕ) (c : Call) {x n : ℕ} (h : Decided u x UNSOUND n) (refuses : isSoundUnit u ≡ true → n ≡ x → soundly (unitIn u) c ≡ refused (unitIn u) n) (r : TmcAnswer)
     (a : r ≡ answerOf (numbered n)) where
-  left : onBytes u c ≡ keptOf u n
-  left = stays u (h .lent) c n (λ e. refuses e (h .is ∙ at-true _ _ _ e)) (λ e. h .is ∙ at-false _ _ _ e)
+  stayed : onBytes u c ≡ keptOf u n
+  stayed = stays u (h .lent) c n (λ e. refuses e (h .is ∙ at-true _ _ _ e)) (λ e. h .is ∙ at-false _ _ _ e)
 
   pub refusal : Returns (onBytes u c) u r
-  refusal = kept u (h .lent) c n r a left
+  refusal = kept u (h .lent) c n r a stayed
 
   pub refusal-into : (b : List ℕ) → Fills (onBytes u c) b b u r
-  refusal-into = kept-into u (h .lent) c n r a left
+  refusal-into = kept-into u (h .lent) c n r a stayed

@@ -73,7 +73,7 @@ pub record Returns (q : BytesResult) (u′ : List ℕ) (r : TmcAnswer) : Type 0 
 
 -- and the lent buffer held `b` before the call and holds `b′` after it
 pub record Fills (q : BytesResult) (b b′ u′ : List ℕ) (r : TmcAnswer) : Type 0 where
-  pub left : Returns q u′ r
+  pub returned : Returns q u′ r
   pub buffer : b′ ≡ into (q .answer .bytes) b
 
 -- ** what it is for a unit's bytes and an answer to be the definitions' step `q`: the unit, the verdict, its bytes, and the lent buffer

@@ -1,4 +1,4 @@
--- What each of the thermostat's calls leaves, by the way that its code takes.
+-- What each of the thermostat's calls returning, by the way that its code takes.
 -- Assumes nothing.
 use Prim.Native.Nat.{ℕ, _≤_}
 use mathlib.Core.Path.{_≡_, sym, ap, _∙_, subst}
@@ -26,7 +26,7 @@ use Rattle.c_bytes.specs.Layout.{REMOTE-AT, remoteNumber, outMessageBytes, inRe
 use Rattle.c_parts.proofs.Puts.{Holds, out-message-put, in-reply-put, interrupt-put, remote-put, reply-put}
 use Rattle.c_promise.specs.Promise.{IsNumber, onBytes, answerOf, Returns, Fills}
 use Rattle.c_promise.specs.declared.types.TmcAnswer.{TmcAnswer}
-use Rattle.c_promise.proofs.Called.{holds, leaves, fills, refusal, refusal-into, is-sound, by-rules, state-sound}
+use Rattle.c_promise.proofs.Called.{holds, returning, fills, refusal, refusal-into, is-sound, by-rules, state-sound}
 
 module _ (u : List ℕ) (n : ℕ) (u′ : List ℕ) (r : TmcAnswer) where
   -- ** the status byte and the front panel
@@ -43,7 +43,7 @@ module _ (u : List ℕ) (n : ℕ) (u′ : List ℕ) (r : TmcAnswer) where
       status-done z f a =
           let c = quiet (set-status status) in
           let e = is-sound is z in
-          leaves u (is .lent) c e _ (sym (ap (said (unitIn u)) (passes (refuse (stateIn u)) (thermostatRules (stateIn u)) _ n tt (by-rules is z) z))) u′ r
+          returning u (is .lent) c e _ (sym (ap (said (unitIn u)) (passes (refuse (stateIn u)) (thermostatRules (stateIn u)) _ n tt (by-rules is z) z))) u′ r
           (interrupt-put (statusHeld (interruptOf (stateIn u)) status) .to (holds u (is .lent) e) f) a
 
     pub panel-refused : (n ≡ 0 → ⊥) → r ≡ answerOf (numbered n) → Returns (onBytes u (quiet front-panel)) u r
@@ -54,7 +54,7 @@ module _ (u : List ℕ) (n : ℕ) (u′ : List ℕ) (r : TmcAnswer) where
       goes : Holds (withState (unitIn u) (withRemote (stateIn u) (byPanel x))) u′ → Returns (onBytes u (quiet front-panel)) u′ r
       unfolding unitIn soundly quietly panel returned
       goes h =
-          leaves u (is .lent) (quiet front-panel) (is-sound is z) _ (sym (ap (said (unitIn u)) (passes (refuse (stateIn u)) (thermostatRules (stateIn u)) _ n tt (by-rules is z) z))) u′ r
+          returning u (is .lent) (quiet front-panel) (is-sound is z) _ (sym (ap (said (unitIn u)) (passes (refuse (stateIn u)) (thermostatRules (stateIn u)) _ n tt (by-rules is z) z))) u′ r
           (subst (λ (y : Remote). Holds (withState (unitIn u) (withRemote (stateIn u) (byPanel y))) u′) (sym from) h) a
 
       pub panel-goes : u′ ≡ paste u REMOTE-AT (remoteNumber (byPanel x) ∷ []) 1 → Returns (onBytes u (quiet front-panel)) u′ r
@@ -112,5 +112,5 @@ module _ (u : List ℕ) (n : ℕ) (u′ : List ℕ) (r : TmcAnswer) where
         let c = quiet (offer-reply bytes) in
         let e = is-sound is z in
         let fit = offer-room z in
-        leaves u (is .lent) c e _ (sym (ap (withReply (unitIn u) bytes) (offer-done (stateIn u) n (length bytes) (by-rules is z) z))) u′ r
+        returning u (is .lent) c e _ (sym (ap (withReply (unitIn u) bytes) (offer-done (stateIn u) n (length bytes) (by-rules is z) z))) u′ r
         (in-reply-put (record { at = 0; unsent = length bytes }) .to (reply-put bytes (length bytes) fit (omega arith) .to (holds u (is .lent) e) f) g) a

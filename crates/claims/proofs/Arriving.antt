@@ -112,15 +112,15 @@ module _ (u : Device) where
 
   -- ** setup rows
 
-  abbrev Leaves : SetupOutcome → Type 0
-  Leaves x = Kept (answered u x .unit .state)
+  abbrev KeptBy : SetupOutcome → Type 0
+  KeptBy x = Kept (answered u x .unit .state)
 
-  row-kept : (row : Row) → Kept (effected st (answerRow st row .effect)) → Leaves (asks-for st (Asks row))
+  row-kept : (row : Row) → Kept (effected st (answerRow st row .effect)) → KeptBy (asks-for st (Asks row))
   unfolding answered asks-for
-  row-kept row k = pick-all Leaves _ _ _ (λ _. k) (λ _. refl)
+  row-kept row k = pick-all KeptBy _ _ _ (λ _. k) (λ _. refl)
 
   abbrev Safe : Column × (ℕ → Setup) → Type 0
-  Safe c = (c .0 .index < 256) × (Harmless (c .0 .type) (c .0 .request) (c .0 .index) → (v : ℕ) → Leaves (asks-for st (c .1 v)))
+  Safe c = (c .0 .index < 256) × (Harmless (c .0 .type) (c .0 .request) (c .0 .index) → (v : ℕ) → KeptBy (asks-for st (c .1 v)))
 
   abbrev Reacts : Reaction → Type 0
   Reacts x = Kept (effected st (x .effect))
@@ -155,14 +155,14 @@ module _ (u : Device) where
   setup-kept : (s : List ℕ) (room : ℕ) → Harmless (at s 0) (at s 1) (at s 4) → Kept (setup u s room .unit .state)
   unfolding setup setupOutcome answered asks-for
   setup-kept s room h =
-      decide-all Leaves Denies (setupRules (length s) room) _ (refl, tt)
-      (λ _. ⊎-elim (λ m. found (find s Safe rows (readSetup s) all-safe m)) (λ k. subst (λ (x : Setup). Leaves (asks-for st x)) (sym (k .0)) refl) (setup-law s))
+      decide-all KeptBy Denies (setupRules (length s) room) _ (refl, tt)
+      (λ _. ⊎-elim (λ m. found (find s Safe rows (readSetup s) all-safe m)) (λ k. subst (λ (x : Setup). KeptBy (asks-for st x)) (sym (k .0)) refl) (setup-law s))
     where
-      found : Found s Safe (readSetup s) → Leaves (asks-for st (readSetup s))
+      found : Found s Safe (readSetup s) → KeptBy (asks-for st (readSetup s))
       found f =
           let index : at s 4 ≡ f .row .0 .index = let l = f .holds .0 in let e = f .fits .index in omega arith in
           let row = f .row .0 in
-          subst (λ (x : Setup). Leaves (asks-for st x)) (sym (f .asks))
+          subst (λ (x : Setup). KeptBy (asks-for st x)) (sym (f .asks))
           (f .holds .1 (subst (λ (n : ℕ). Harmless n (row .request) (row .index)) (f .fits .type)
           (subst (λ (n : ℕ). Harmless (at s 0) n (row .index)) (f .fits .request) (subst (Harmless (at s 0) (at s 1)) index h))) _)
 
@@ -172,7 +172,7 @@ module _ (u : Device) where
   refused-kept s room = decide-all Refused Denies (setupRules (length s) room) _ (λ _. refl, tt) (λ _. by (readSetup s))
     where
       Refused : SetupOutcome → Type 0
-      Refused x = Not (answered u x .answer .verdict .number ≡ 0) → Leaves x
+      Refused x = Not (answered u x .answer .verdict .number ≡ 0) → KeptBy x
 
       by : (x : Setup) → Refused (asks-for st x)
       by (Configure value) n = absurd (n refl)

@@ -12,7 +12,7 @@ use Rattle.wire.specs.When.{at}
 use Rattle.port.specs.Trace.{Event}
 use Rattle.claims.specs.Command.{Piece, command, Good, header, mark, IsRequest, IsTrigger, Others}
 use Rattle.claims.specs.Wire.{Heard, nothing, accepted, broken-off, wiped-out, handed-over, heardOf, acceptedOf}
-use Rattle.claims.specs.Wire.{acceptedIn, Passes, Unbroken, Leaves, Waits, Divides, Divided}
+use Rattle.claims.specs.Wire.{acceptedIn, Passes, Unbroken, Spares, Waits, Divides, Divided}
 use Rattle.claims.specs.Handed.{Whole, Brought, Begun, Rest, Finished, Allowed}
 use Rattle.claims.proofs.Effects.{View, Taken, empty, other, all-at-once, begins, ends, goes-on, Broken, Handed, Effect}
 use Rattle.claims.proofs.Follows.{Follows, nothing-left, between, one-more-empty, header-whole, header-part, data-whole, data-part}
@@ -27,7 +27,7 @@ unbroken-snoc : (es : List Event) (e : Event) → Unbroken es → Passes (heardO
 unbroken-snoc [] e b p = (p, tt)
 unbroken-snoc (f ∷ es) e b p = (b .0, unbroken-snoc es e (b .1) p)
 
-waits-snoc : (es : List Event) (e : Event) → Waits es → Leaves (heardOf e) → Waits (es ++ (e ∷ []))
+waits-snoc : (es : List Event) (e : Event) → Waits es → Spares (heardOf e) → Waits (es ++ (e ∷ []))
 waits-snoc [] e b p = (p, tt)
 waits-snoc (f ∷ es) e b p = (b .0, waits-snoc es e (b .1) p)
 
@@ -236,7 +236,7 @@ module _ (P : ℕ) (b : Begun) (From : Type 0) where
         packets = accepted-snoc es e ∙ ap₂ (λ (l : List (List ℕ)) (x : Heard). l ++ acceptedOf x) (k .packets) is;
       }
 
-      source-on : Leaves h → (m : List ℕ) → Source es m → Source es′ m
+      source-on : Spares h → (m : List ℕ) → Source es m → Source es′ m
       source-on p m (inl k) = inl (record {
         earlier = k .earlier;
         bringing = k .bringing;
@@ -247,7 +247,7 @@ module _ (P : ℕ) (b : Begun) (From : Type 0) where
         first = k .first;
         unbroken = k .unbroken;
         whole = k .whole;
-        waits = waits-snoc (k .later) e (k .waits) (subst Leaves (sym is) p);
+        waits = waits-snoc (k .later) e (k .waits) (subst Spares (sym is) p);
       })
       source-on p m (inr (f, k)) = inr (
         f,
@@ -257,7 +257,7 @@ module _ (P : ℕ) (b : Begun) (From : Type 0) where
           stretches = ap (λ (l : List Event). l ++ (e ∷ [])) (k .stretches) ∙ append-assoc (k .bringing) (k .later) (e ∷ []);
           unbroken = k .unbroken;
           rest = k .rest;
-          waits = waits-snoc (k .later) e (k .waits) (subst Leaves (sym is) p);
+          waits = waits-snoc (k .later) e (k .waits) (subst Spares (sym is) p);
         },
       )
 

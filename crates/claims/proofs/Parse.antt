@@ -20,7 +20,7 @@ use Rattle.claims.specs.Command.{Piece, command, header, aligned, packet
 use Rattle.port.specs.Trace.{Event}
 use Rattle.port.proofs.KeepsOut.{cases}
 use Rattle.claims.specs.Wire.{Heard, nothing, accepted, broken-off, wiped-out, handed-over, heardOf}
-use Rattle.claims.specs.Wire.{acceptedIn, Passes, Unbroken, Leaves, Waits, Divides, Divided}
+use Rattle.claims.specs.Wire.{acceptedIn, Passes, Unbroken, Spares, Waits, Divides, Divided}
 use Rattle.claims.specs.Handed.{Whole, Brought}
 use Rattle.claims.proofs.Digits.{in-four}
 use Rattle.claims.proofs.Cuts.{aligned-long}
@@ -219,12 +219,12 @@ passes broken-off = false
 passes wiped-out = false
 passes (handed-over bytes) = false
 
-abbrev leaves : Heard → Bool
-leaves nothing = true
-leaves (accepted s) = false
-leaves broken-off = true
-leaves wiped-out = false
-leaves (handed-over bytes) = false
+abbrev spares : Heard → Bool
+spares nothing = true
+spares (accepted s) = false
+spares broken-off = true
+spares wiped-out = false
+spares (handed-over bytes) = false
 
 abbrev divides : Heard → Bool
 divides nothing = false
@@ -256,7 +256,7 @@ abbrev reads : Read → List ℕ → Bool
 reads r m = r .0 and same (r .1) m
 
 abbrev brings : ℕ → List Event → List Event → List Event → List ℕ → Bool
-brings P earlier bringing later m = divided earlier and every passes bringing and every leaves later and reads (parse P 0 0 (skipped (acceptedIn bringing))) m
+brings P earlier bringing later m = divided earlier and every passes bringing and every spares later and reads (parse P 0 0 (skipped (acceptedIn bringing))) m
 
 unfoldable pub searched : ℕ → List Event → List ℕ → Bool
 searched P es m = any (length es) (λ i. any (length es) (λ j. brings P (take i es) (take j (drop i es)) (drop j (drop i es)) m))
@@ -274,11 +274,11 @@ unbroken-found (e ∷ es) u = and-both _ _ (one (heardOf e) (u .0)) (unbroken-fo
     one wiped-out p = absurd p
     one (handed-over bytes) p = absurd p
 
-waits-found : (es : List Event) → Waits es → every leaves es ≡ true
+waits-found : (es : List Event) → Waits es → every spares es ≡ true
 waits-found [] u = refl
 waits-found (e ∷ es) u = and-both _ _ (one (heardOf e) (u .0)) (waits-found es (u .1))
   where
-    one : (h : Heard) → Leaves h → leaves h ≡ true
+    one : (h : Heard) → Spares h → spares h ≡ true
     one nothing p = refl
     one (accepted s) p = absurd p
     one broken-off p = refl
@@ -321,5 +321,5 @@ brought-found P fours big es m b =
     (any-found (length es) j _ (omega arith)
     (and-both _ _ (ap divided front ∙ divided-found (b .earlier) (b .first))
     (and-both _ _ (ap (every passes) middle ∙ unbroken-found (b .bringing) (b .unbroken))
-    (and-both _ _ (ap (every leaves) last ∙ waits-found (b .later) (b .waits))
+    (and-both _ _ (ap (every spares) last ∙ waits-found (b .later) (b .waits))
     (ap (λ (es : List Event). reads (parse P 0 0 (skipped (acceptedIn es))) m) middle ∙ ap (λ (r : Read). reads r m) w ∙ and-both _ _ refl (same-found m))))))

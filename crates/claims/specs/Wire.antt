@@ -89,16 +89,16 @@ Unbroken [] = Unit {0}
 Unbroken (e ∷ es) = Passes (heardOf e) × Unbroken es
 
 -- nothing in it that takes away a message which is ready: a clear, SET_CONFIGURATION, a reset, or that it is handed over; and no packet is accepted
-abbrev pub Leaves : Heard → Type 0
-Leaves nothing = Unit {0}
-Leaves (accepted s) = ⊥
-Leaves broken-off = Unit {0}
-Leaves wiped-out = ⊥
-Leaves (handed-over bytes) = ⊥
+abbrev pub Spares : Heard → Type 0
+Spares nothing = Unit {0}
+Spares (accepted s) = ⊥
+Spares broken-off = Unit {0}
+Spares wiped-out = ⊥
+Spares (handed-over bytes) = ⊥
 
 abbrev pub Waits : List Event → Type 0
 Waits [] = Unit {0}
-Waits (e ∷ es) = Leaves (heardOf e) × Waits es
+Waits (e ∷ es) = Spares (heardOf e) × Waits es
 
 -- it is empty, or ends with a break or a message handed over
 abbrev pub Divides : Heard → Type 0

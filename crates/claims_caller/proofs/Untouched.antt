@@ -34,7 +34,7 @@ use Rattle.claims_caller.specs.Seen.{Untouched}
 pub c-rest : (q : BytesResult) (b b′ u′ : List ℕ) (r : TmcAnswer) → Fills q b b′ u′ r → drop (r .len) b′ ≡ drop (r .len) b
 c-rest q b b′ u′ r h =
     let bytes = q .answer .bytes in
-    let e : length bytes ≡ r .len = sym (ap (λ (a : TmcAnswer). a .len) (h .left .answer)) in
+    let e : length bytes ≡ r .len = sym (ap (λ (a : TmcAnswer). a .len) (h .returned .answer)) in
     ap (drop (r .len)) (h .buffer) ∙ drop-at bytes (drop (length bytes) b) (r .len) e ∙ ap (λ (k : ℕ). drop k b) e
 
 pub unit-rest : (u : Unit) (c : Call) (b b′ : List ℕ) (t : Told) → Tells (step (deviceOf u) c) b b′ t → drop (t .len) b′ ≡ drop (t .len) b
@@ -90,7 +90,7 @@ module _ (u : List ℕ) (c : Call) (u′ : List ℕ) (r : TmcAnswer) (refused : 
     c-untold = (untold (bytes-plain u c) verdict refused, empty (bytes-plain u c) verdict refused len)
 
   pub c-untouched : (b b′ : List ℕ) → Fills (onBytes u c) b b′ u′ r → Untouched b b′ (r .verdict) (r .len)
-  c-untouched b b′ h = untouched (bytes-plain u c) (verdict (h .left)) refused (len (h .left)) (h .buffer)
+  c-untouched b b′ h = untouched (bytes-plain u c) (verdict (h .returned)) refused (len (h .returned)) (h .buffer)
 
 -- ** by value and in place, of every unit
 

@@ -1,4 +1,6 @@
 -- Laws that belong to no one function.
-pub mod Leaving
+pub mod Putting
 pub mod Spilled
 pub mod Rooms
+pub mod Feeding
+pub mod Moving

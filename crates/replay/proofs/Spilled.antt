@@ -20,7 +20,7 @@ use Rattle.port.specs.Laws.{LeftAs}
 use Rattle.port.proofs.Calls.{leaves-table}
 use Rattle.text_put.specs.Text.{ascii, _then_}
 use Rattle.text_put.specs.Numbers.{hexText}
-use Rattle.text_answers.specs.Answer.{FILL, filled, kept, verdictText, doneText, endText, toldText}
+use Rattle.text_answers.specs.Answer.{FILL, filled, filledBehind, verdictText, doneText, endText, toldText}
 use Rattle.unit.specs.Promise.{toldOf, Tells}
 use Rattle.unit.specs.declared.types.Told.{Told}
 use Rattle.replay.specs.Play.{After, bytesText, told}
@@ -46,21 +46,21 @@ filled-drop (suc n) [] e = refl
 filled-drop (suc n) (x ∷ b) e = filled-drop n b (both-right _ _ e)
 
 -- behind bytes that went into it, it is as it was filled
-kept-into : (s b : List ℕ) → filled b ≡ true → kept (into s b) (length s) ≡ true
-unfolding kept
-kept-into s b e =
+filled-into : (s b : List ℕ) → filled b ≡ true → filledBehind (into s b) (length s) ≡ true
+unfolding filledBehind
+filled-into s b e =
     let rest = drop (length s) b in
     let fits : length s ≤ length (s ++ rest) = rw length-append (omega arith) in
-    let left : filled (drop (length s) (s ++ rest)) ≡ true = rw (drop-at s rest (length s) refl) (filled-drop (length s) b e) in
-    and-both _ _ (le-leb (length s) (length (s ++ rest)) fits) left
+    let untouched : filled (drop (length s) (s ++ rest)) ≡ true = rw (drop-at s rest (length s) refl) (filled-drop (length s) b e) in
+    and-both _ _ (le-leb (length s) (length (s ++ rest)) fits) untouched
 
 -- ** an answer
 
 module _ (a : Answer) (b : List ℕ) (full : filled b ≡ true) (bare : (a .verdict .number ≡ DONE → ⊥) → a .bytes ≡ []) where
-  done-shown : (verdictText (a .verdict) then ascii " " then hexText (take (length (a .bytes)) (into (a .bytes) b)) then endText (kept (into (a .bytes) b) (length (a .bytes))))
+  done-shown : (verdictText (a .verdict) then ascii " " then hexText (take (length (a .bytes)) (into (a .bytes) b)) then endText (filledBehind (into (a .bytes) b) (length (a .bytes))))
       ≡ (verdictText (a .verdict) then ascii " " then hexText (a .bytes) then ascii "\n")
   unfolding endText pick
-  done-shown = rw (take-at (a .bytes) (drop (length (a .bytes)) b) (length (a .bytes)) refl, kept-into (a .bytes) b full) refl
+  done-shown = rw (take-at (a .bytes) (drop (length (a .bytes)) b) (length (a .bytes)) refl, filled-into (a .bytes) b full) refl
 
   refused-shown : (a .verdict .number ≡ DONE → ⊥) → (verdictText (a .verdict) then endText (filled (into (a .bytes) b))) ≡ doneText (a .verdict)
   unfolding endText pick doneText

@@ -58,31 +58,31 @@ unreadText w (NoHexDigit b) = noHexDigitText b
 unreadText w OddDigits = oddHexText w
 unreadText w NoStatus = noStatusText w
 
-abbrev pub wrongText : Wrong → List ℕ
-wrongText too-long = tooLongText
-wrongText (no-call w) = unknownNameText w
-wrongText (too-few w) = tooFewWordsText w
-wrongText (too-many w) = tooManyWordsText w
-wrongText (unread w why) = unreadText w why
+abbrev pub whyText : Wrong → List ℕ
+whyText too-long = tooLongText
+whyText (no-call w) = unknownNameText w
+whyText (too-few w) = tooFewWordsText w
+whyText (too-many w) = tooManyWordsText w
+whyText (unread w why) = unreadText w why
 
 -- ** what a line leaves
 
-unfoldable pub leaves : Device → Meaning → After
-leaves u nothing = asItWas u []
-leaves u (wrong w) = asItWas u (wrongText w)
-leaves u (power p) = done (powerOn (record { packet = p }))
-leaves u (setup s b) = told (step u (call.setup-of s (room 24 b)))
-leaves u (out s) = done (step u (call.out-packet s))
-leaves u (in-poll b) = told (step u (quiet (call.in-poll (room (packetSize (u .state)) b))))
-leaves u (in3-poll b) = told (step u (quiet (call.interrupt-poll (room 2 b))))
-leaves u (take-into b) = told (step u (call.take-into (room STORE b)))
-leaves u (offer s) = done (step u (quiet (call.offer-reply s)))
-leaves u (status b) = done (step u (quiet (call.set-status b)))
-leaves u local = done (step u (quiet call.front-panel))
-leaves u reset = done (step u call.bus-reset)
-leaves u suspend = done (step u (quiet call.bus-suspend))
-leaves u state = asItWas u (overviewText (u .state .small) (u .state .split) (u .state .remote))
-leaves u more = asItWas u (moreText (u .state .small))
+unfoldable pub carriedOut : Device → Meaning → After
+carriedOut u nothing = asItWas u []
+carriedOut u (wrong w) = asItWas u (whyText w)
+carriedOut u (power p) = done (powerOn (record { packet = p }))
+carriedOut u (setup s b) = told (step u (call.setup-of s (room 24 b)))
+carriedOut u (out s) = done (step u (call.out-packet s))
+carriedOut u (in-poll b) = told (step u (quiet (call.in-poll (room (packetSize (u .state)) b))))
+carriedOut u (in3-poll b) = told (step u (quiet (call.interrupt-poll (room 2 b))))
+carriedOut u (take-into b) = told (step u (call.take-into (room STORE b)))
+carriedOut u (offer s) = done (step u (quiet (call.offer-reply s)))
+carriedOut u (status b) = done (step u (quiet (call.set-status b)))
+carriedOut u local = done (step u (quiet call.front-panel))
+carriedOut u reset = done (step u call.bus-reset)
+carriedOut u suspend = done (step u (quiet call.bus-suspend))
+carriedOut u state = asItWas u (overviewText (u .state .small) (u .state .split) (u .state .remote))
+carriedOut u more = asItWas u (moreText (u .state .small))
 
 unfoldable pub played : Device → List ℕ → After
-played u line = leaves u (meaning line)
+played u line = carriedOut u (meaning line)

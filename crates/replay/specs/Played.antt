@@ -12,7 +12,7 @@ use Rattle.replay.specs.Play.{After}
 use Rattle.replay.specs.declared.played.Played.{Played}
 
 -- the unit is that one, and the answer is put into the output, which held the page `p` before and holds `output` after
-pub record Leaves (a : After) (p : Page) (output : List ℕ) (r : Played) : Type 0 where
+pub record Puts (a : After) (p : Page) (output : List ℕ) (r : Played) : Type 0 where
   pub unit : deviceOf (r .unit) ≡ a .unit
   pub text : (output, r .at) ≡ typed p (a .text)
 

@@ -26,8 +26,8 @@ ghost use Prim.Native.Nat.{min};
 ghost use Rattle.text_lines.specs.Lines.{P, HEX, BUFFER, HH};
 ghost use Rattle.text_lines.specs.Lines as Lines;
 ghost use Rattle.unit.specs.Promise.{deviceOf};
-ghost use Rattle.replay.specs.Play.{leaves};
-ghost use Rattle.replay.specs.Played.{Leaves};
+ghost use Rattle.replay.specs.Play.{carriedOut};
+ghost use Rattle.replay.specs.Played.{Puts};
 
 // The buffers that a setup packet and a poll of Interrupt-IN are lent where no length is said.
 const CONTROL_BUFFER: usize = 24;
@@ -52,7 +52,7 @@ fn within(n: u16) -> usize
 }
 
 pub fn power(unit: Unit, word: &[u8], out: &mut [u8], at: usize) -> Played
-    ensures { λ r. ⌜ Leaves (leaves (deviceOf unit) (P (now (word .entry)) Lines.power)) (now (out .entry), at) (now (out .exit)) r ⌝ }
+    ensures { λ r. ⌜ Puts (carriedOut (deviceOf unit) (P (now (word .entry)) Lines.power)) (now (out .entry), at) (now (out .exit)) r ⌝ }
 {
     let size = given_size(word);
     match size {
@@ -66,19 +66,19 @@ pub fn power(unit: Unit, word: &[u8], out: &mut [u8], at: usize) -> Played
 
 // A setup packet with the bytes that its word gave.
 fn setup_of(unit: Unit, packet: &[u8], length: &[u8], out: &mut [u8], at: usize) -> Played
-    ensures { λ r. ⌜ Leaves (leaves (deviceOf unit) (BUFFER (now (length .entry)) (Lines.setup (now (packet .entry))))) (now (out .entry), at)
+    ensures { λ r. ⌜ Puts (carriedOut (deviceOf unit) (BUFFER (now (length .entry)) (Lines.setup (now (packet .entry))))) (now (out .entry), at)
         (now (out .exit)) r ⌝ }
 {
     let given = given_length(length);
     match given {
         Length::NoLength(why) => unread(unit, length, why, out, at),
-        Length::Left => lend_setup(unit, packet, CONTROL_BUFFER, out, at),
+        Length::OfTheCall => lend_setup(unit, packet, CONTROL_BUFFER, out, at),
         Length::Buffer(n) => lend_setup(unit, packet, wide(n), out, at),
     }
 }
 
 pub fn setup(unit: Unit, word: &[u8], length: &[u8], out: &mut [u8], at: usize) -> Played
-    ensures { λ r. ⌜ Leaves (leaves (deviceOf unit) (HEX (now (word .entry)) λ s. BUFFER (now (length .entry)) (Lines.setup s))) (now (out .entry), at)
+    ensures { λ r. ⌜ Puts (carriedOut (deviceOf unit) (HEX (now (word .entry)) λ s. BUFFER (now (length .entry)) (Lines.setup s))) (now (out .entry), at)
         (now (out .exit)) r ⌝ }
 {
     let mut bytes = [0u8; BYTES];
@@ -90,7 +90,7 @@ pub fn setup(unit: Unit, word: &[u8], length: &[u8], out: &mut [u8], at: usize) 
 }
 
 pub fn packet_out(unit: Unit, word: &[u8], out: &mut [u8], at: usize) -> Played
-    ensures { λ r. ⌜ Leaves (leaves (deviceOf unit) (HEX (now (word .entry)) Lines.out)) (now (out .entry), at) (now (out .exit)) r ⌝ }
+    ensures { λ r. ⌜ Puts (carriedOut (deviceOf unit) (HEX (now (word .entry)) Lines.out)) (now (out .entry), at) (now (out .exit)) r ⌝ }
 {
     let mut bytes = [0u8; BYTES];
     let given = given_bytes(word, &mut bytes);
@@ -101,40 +101,40 @@ pub fn packet_out(unit: Unit, word: &[u8], out: &mut [u8], at: usize) -> Played
 }
 
 pub fn packet_in(unit: Unit, length: &[u8], out: &mut [u8], at: usize) -> Played
-    ensures { λ r. ⌜ Leaves (leaves (deviceOf unit) (BUFFER (now (length .entry)) Lines.in-poll)) (now (out .entry), at) (now (out .exit)) r ⌝ }
+    ensures { λ r. ⌜ Puts (carriedOut (deviceOf unit) (BUFFER (now (length .entry)) Lines.in-poll)) (now (out .entry), at) (now (out .exit)) r ⌝ }
 {
     let given = given_length(length);
     match given {
         Length::NoLength(why) => unread(unit, length, why, out, at),
-        Length::Left => lend_in(unit, within(unit.small.port.setting.packet), out, at),
+        Length::OfTheCall => lend_in(unit, within(unit.small.port.setting.packet), out, at),
         Length::Buffer(n) => lend_in(unit, wide(n), out, at),
     }
 }
 
 pub fn packet_interrupt(unit: Unit, length: &[u8], out: &mut [u8], at: usize) -> Played
-    ensures { λ r. ⌜ Leaves (leaves (deviceOf unit) (BUFFER (now (length .entry)) Lines.in3-poll)) (now (out .entry), at) (now (out .exit)) r ⌝ }
+    ensures { λ r. ⌜ Puts (carriedOut (deviceOf unit) (BUFFER (now (length .entry)) Lines.in3-poll)) (now (out .entry), at) (now (out .exit)) r ⌝ }
 {
     let given = given_length(length);
     match given {
         Length::NoLength(why) => unread(unit, length, why, out, at),
-        Length::Left => lend_interrupt(unit, INTERRUPT_BUFFER, out, at),
+        Length::OfTheCall => lend_interrupt(unit, INTERRUPT_BUFFER, out, at),
         Length::Buffer(n) => lend_interrupt(unit, wide(n), out, at),
     }
 }
 
 pub fn take(unit: Unit, length: &[u8], out: &mut [u8], at: usize) -> Played
-    ensures { λ r. ⌜ Leaves (leaves (deviceOf unit) (BUFFER (now (length .entry)) Lines.take-into)) (now (out .entry), at) (now (out .exit)) r ⌝ }
+    ensures { λ r. ⌜ Puts (carriedOut (deviceOf unit) (BUFFER (now (length .entry)) Lines.take-into)) (now (out .entry), at) (now (out .exit)) r ⌝ }
 {
     let given = given_length(length);
     match given {
         Length::NoLength(why) => unread(unit, length, why, out, at),
-        Length::Left => lend_take(unit, wide(STORE), out, at),
+        Length::OfTheCall => lend_take(unit, wide(STORE), out, at),
         Length::Buffer(n) => lend_take(unit, wide(n), out, at),
     }
 }
 
 pub fn offer(unit: Unit, word: &[u8], out: &mut [u8], at: usize) -> Played
-    ensures { λ r. ⌜ Leaves (leaves (deviceOf unit) (HEX (now (word .entry)) Lines.offer)) (now (out .entry), at) (now (out .exit)) r ⌝ }
+    ensures { λ r. ⌜ Puts (carriedOut (deviceOf unit) (HEX (now (word .entry)) Lines.offer)) (now (out .entry), at) (now (out .exit)) r ⌝ }
 {
     let mut bytes = [0u8; BYTES];
     let given = given_bytes(word, &mut bytes);
@@ -145,7 +145,7 @@ pub fn offer(unit: Unit, word: &[u8], out: &mut [u8], at: usize) -> Played
 }
 
 pub fn status(unit: Unit, word: &[u8], out: &mut [u8], at: usize) -> Played
-    ensures { λ r. ⌜ Leaves (leaves (deviceOf unit) (HH (now (word .entry)) Lines.status)) (now (out .entry), at) (now (out .exit)) r ⌝ }
+    ensures { λ r. ⌜ Puts (carriedOut (deviceOf unit) (HH (now (word .entry)) Lines.status)) (now (out .entry), at) (now (out .exit)) r ⌝ }
 {
     let given = given_status(word);
     match given {
@@ -155,7 +155,7 @@ pub fn status(unit: Unit, word: &[u8], out: &mut [u8], at: usize) -> Played
 }
 
 pub fn overview(unit: Unit, out: &mut [u8], at: usize) -> Played
-    ensures { λ r. ⌜ Leaves (leaves (deviceOf unit) Lines.state) (now (out .entry), at) (now (out .exit)) r ⌝ }
+    ensures { λ r. ⌜ Puts (carriedOut (deviceOf unit) Lines.state) (now (out .entry), at) (now (out .exit)) r ⌝ }
 {
     let small = unit.small;
     let split = unit.split;
@@ -165,7 +165,7 @@ pub fn overview(unit: Unit, out: &mut [u8], at: usize) -> Played
 }
 
 pub fn more(unit: Unit, out: &mut [u8], at: usize) -> Played
-    ensures { λ r. ⌜ Leaves (leaves (deviceOf unit) Lines.more) (now (out .entry), at) (now (out .exit)) r ⌝ }
+    ensures { λ r. ⌜ Puts (carriedOut (deviceOf unit) Lines.more) (now (out .entry), at) (now (out .exit)) r ⌝ }
 {
     let small = unit.small;
     let end = put_more(out, at, small);

@@ -1,31 +1,37 @@
-// The lines in what was read, and the part of a line that waits for its end.
+// The lines in what was read.
 use crate::line::play;
+use crate::played::Played;
 use libc::STDERR_FILENO;
 use libc::STDOUT_FILENO;
 use port::types::FULL_SPEED;
 use port::types::Setting;
 use text_answers::wrong::too_long;
-use text_lines::asked::LONGEST;
-use text_put::put_byte;
 use text_words::words::Word;
 use text_words::words::find;
 use text_words::words::first_part;
 use text_words::words::part;
 use unit::types::Unit;
+ghost use mathlib.Core.Path.{_≡_};
+ghost use lib.ListN.{length};
+ghost use Rattle.unit.specs.Promise.{deviceOf};
+ghost use Rattle.replay.specs.Played.{Puts};
+ghost use Rattle.replay.specs.Feed.{firstFeed, ended, Ends, emptied, isNearlyFull, Passes, Plays};
 
 // The unit; how far the output is filled with answers, how far the lines in the input are played, and how many bytes of a line wait there
-// for its end. `is_long` says that the start of that line was too long to keep, `is_open` that there is more to read and write.
+// for its end. `skipping` says that the start of that line was too long to keep, `going` that there is more to read and write.
 pub struct Feed {
     pub unit: Unit,
     pub filled: usize,
     pub played: usize,
     pub held: usize,
-    pub is_long: bool,
-    pub is_open: bool,
+    pub skipping: bool,
+    pub going: bool,
 }
 
 // Before the first line.
-pub fn first_feed() -> Feed {
+pub fn first_feed() -> Feed
+    ensures { λ r. ⌜ r ≡ firstFeed ⌝ }
+{
     let setting = Setting { packet: FULL_SPEED };
     let on = Unit::new(setting);
     let unit = on.unit;
@@ -34,15 +40,17 @@ pub fn first_feed() -> Feed {
         filled: 0,
         played: 0,
         held: 0,
-        is_long: false,
-        is_open: true,
+        skipping: false,
+        going: true,
     }
 }
 
 // What is left free of the output: more than any answer takes.
 const ROOM: usize = 8192;
 
-fn is_nearly_full(out: &[u8], filled: usize) -> bool {
+fn is_nearly_full(out: &[u8], filled: usize) -> bool
+    ensures { λ r. ⌜ r ≡ isNearlyFull (now (out .entry)) filled ⌝ }
+{
     if out.len() < ROOM {
         return true;
     }
@@ -50,39 +58,54 @@ fn is_nearly_full(out: &[u8], filled: usize) -> bool {
 }
 
 // Writes the answers out. Where that cannot be done it says so, once, and no more is read.
-pub fn written(feed: Feed, out: &[u8]) -> Feed {
+pub fn written(feed: Feed, out: &[u8]) -> Feed
+    ensures { λ r. ⌜ r ≡ emptied feed (r .going) ⌝ }
+{
     let mut after = feed;
     after.filled = 0;
     if io::write_all(STDOUT_FILENO, first_part(out, feed.filled)) {
         return after;
     }
-    if feed.is_open {
+    if feed.going {
         io::write_all(
             STDERR_FILENO,
             b"replay: standard output cannot be written, so no more calls are read\n",
         );
     }
-    after.is_open = false;
+    after.going = false;
     after
 }
 
-// A line that has come to its end.
-pub fn ended(feed: Feed, line: &[u8], out: &mut [u8]) -> Feed {
-    let mut after = feed;
-    if feed.is_long {
-        after.filled = too_long(out, feed.filled);
-        after.is_long = false;
-        return after;
+// The answer to a line that has come to its end.
+fn line_ended(unit: Unit, skipping: bool, line: &[u8], out: &mut [u8], at: usize) -> Played
+    ensures { λ r. ⌜ Puts (ended skipping (deviceOf unit) (now (line .entry))) (now (out .entry), at) (now (out .exit)) r ⌝ }
+{
+    if skipping {
+        let end = too_long(out, at);
+        return Played { unit, at: end };
     }
-    let unit = feed.unit;
-    let next = play(unit, line, out, feed.filled);
-    let unit = next.unit;
-    after.unit = unit;
-    after.filled = next.at;
-    after
+    play(unit, line, out, at)
 }
 
-fn ended_with_room(feed: Feed, line: &[u8], out: &mut [u8]) -> Feed {
+pub fn ended(feed: Feed, line: &[u8], out: &mut [u8]) -> Feed
+    ensures { λ r. ⌜ Ends feed (now (line .entry)) (now (out .entry)) (now (out .exit)) r ⌝ }
+{
+    let unit = feed.unit;
+    let next = line_ended(unit, feed.skipping, line, out, feed.filled);
+    let unit = next.unit;
+    Feed {
+        unit,
+        filled: next.at,
+        played: feed.played,
+        held: feed.held,
+        skipping: false,
+        going: feed.going,
+    }
+}
+
+fn ended_with_room(feed: Feed, line: &[u8], out: &mut [u8]) -> Feed
+    ensures { λ r. ⌜ Passes feed (now (line .entry)) r ⌝ }
+{
     if is_nearly_full(out, feed.filled) {
         let after = written(feed, out);
         return ended(after, line, out);
@@ -91,7 +114,9 @@ fn ended_with_room(feed: Feed, line: &[u8], out: &mut [u8]) -> Feed {
 }
 
 // Plays each whole line of what was read.
-pub fn whole_lines(feed: Feed, text: &[u8], out: &mut [u8]) -> Feed {
+pub fn whole_lines(feed: Feed, text: &[u8], out: &mut [u8]) -> Feed
+    ensures { λ r. ⌜ Plays feed (now (text .entry)) r ⌝ }
+{
     let mut after = feed;
     let mut from: usize = 0;
     let mut end = find(text, from, b'\n');
@@ -102,38 +127,5 @@ pub fn whole_lines(feed: Feed, text: &[u8], out: &mut [u8]) -> Feed {
         end = find(text, from, b'\n');
     }
     after.played = from;
-    after
-}
-
-// The byte at `from` goes to `to`; hands back the place behind it.
-fn move_byte(input: &mut [u8], from: usize, to: usize) -> usize {
-    if from < input.len() {
-        let byte = input[from];
-        return put_byte(input, to, byte);
-    }
-    to
-}
-
-// The bytes from `from` up to `end` go to the start; hands back how many there are.
-fn move_down(input: &mut [u8], from: usize, end: usize) -> usize {
-    let mut count: usize = 0;
-    let mut i = from;
-    while i < end {
-        count = move_byte(input, i, count);
-        i += 1;
-    }
-    count
-}
-
-// Keeps the part of a line that is left behind the lines that were played, at the start of the input; too long a part is dropped.
-pub fn kept(feed: Feed, input: &mut [u8], end: usize) -> Feed {
-    let mut after = feed;
-    let held = move_down(input, feed.played, end);
-    if held > LONGEST {
-        after.is_long = true;
-        after.held = 0;
-        return after;
-    }
-    after.held = held;
     after
 }

@@ -12,7 +12,7 @@ ghost use Rattle.port.specs.Step.{setup-of, in-poll, interrupt-poll, take-into,
 ghost use Rattle.text_answers.specs.Answer.{filled};
 ghost use Rattle.unit.specs.Promise.{deviceOf};
 ghost use Rattle.replay.specs.Play.{told};
-ghost use Rattle.replay.specs.Played.{Leaves};
+ghost use Rattle.replay.specs.Played.{Puts};
 
 // ** into the first n bytes of a buffer that is filled
 
@@ -25,7 +25,7 @@ fn setup_into(
     at: usize,
 ) -> Played
     requires { ⌜ (n ≤ length (now buffer)) × (filled (now buffer) ≡ true) ⌝ }
-    ensures { λ r. ⌜ Leaves (told (step (deviceOf unit) (setup-of (now (packet .entry)) n))) (now (out .entry), at) (now (out .exit)) r ⌝ }
+    ensures { λ r. ⌜ Puts (told (step (deviceOf unit) (setup-of (now (packet .entry)) n))) (now (out .entry), at) (now (out .exit)) r ⌝ }
 {
     let lent = &mut buffer[..n];
     let told = unit.setup(packet, lent);
@@ -34,7 +34,7 @@ fn setup_into(
 
 fn in_into(unit: Unit, buffer: &mut [u8], n: usize, out: &mut [u8], at: usize) -> Played
     requires { ⌜ (n ≤ length (now buffer)) × (filled (now buffer) ≡ true) ⌝ }
-    ensures { λ r. ⌜ Leaves (told (step (deviceOf unit) (quiet (in-poll n)))) (now (out .entry), at) (now (out .exit)) r ⌝ }
+    ensures { λ r. ⌜ Puts (told (step (deviceOf unit) (quiet (in-poll n)))) (now (out .entry), at) (now (out .exit)) r ⌝ }
 {
     let lent = &mut buffer[..n];
     let told = unit.bulk_in(lent);
@@ -43,7 +43,7 @@ fn in_into(unit: Unit, buffer: &mut [u8], n: usize, out: &mut [u8], at: usize) -
 
 fn interrupt_into(unit: Unit, buffer: &mut [u8], n: usize, out: &mut [u8], at: usize) -> Played
     requires { ⌜ (n ≤ length (now buffer)) × (filled (now buffer) ≡ true) ⌝ }
-    ensures { λ r. ⌜ Leaves (told (step (deviceOf unit) (quiet (interrupt-poll n)))) (now (out .entry), at) (now (out .exit)) r ⌝ }
+    ensures { λ r. ⌜ Puts (told (step (deviceOf unit) (quiet (interrupt-poll n)))) (now (out .entry), at) (now (out .exit)) r ⌝ }
 {
     let lent = &mut buffer[..n];
     let told = unit.interrupt_in(lent);
@@ -52,7 +52,7 @@ fn interrupt_into(unit: Unit, buffer: &mut [u8], n: usize, out: &mut [u8], at: u
 
 fn message_into(unit: Unit, buffer: &mut [u8], n: usize, out: &mut [u8], at: usize) -> Played
     requires { ⌜ (n ≤ length (now buffer)) × (filled (now buffer) ≡ true) ⌝ }
-    ensures { λ r. ⌜ Leaves (told (step (deviceOf unit) (take-into n))) (now (out .entry), at) (now (out .exit)) r ⌝ }
+    ensures { λ r. ⌜ Puts (told (step (deviceOf unit) (take-into n))) (now (out .entry), at) (now (out .exit)) r ⌝ }
 {
     let lent = &mut buffer[..n];
     let told = unit.take(lent);
@@ -63,7 +63,7 @@ fn message_into(unit: Unit, buffer: &mut [u8], n: usize, out: &mut [u8], at: usi
 
 pub fn lend_setup(unit: Unit, packet: &[u8], n: usize, out: &mut [u8], at: usize) -> Played
     requires { ⌜ n ≤ 2048 ⌝ }
-    ensures { λ r. ⌜ Leaves (told (step (deviceOf unit) (setup-of (now (packet .entry)) n))) (now (out .entry), at) (now (out .exit)) r ⌝ }
+    ensures { λ r. ⌜ Puts (told (step (deviceOf unit) (setup-of (now (packet .entry)) n))) (now (out .entry), at) (now (out .exit)) r ⌝ }
 {
     let mut buffer = [FILL; BYTES];
     setup_into(unit, packet, &mut buffer, n, out, at)
@@ -71,7 +71,7 @@ pub fn lend_setup(unit: Unit, packet: &[u8], n: usize, out: &mut [u8], at: usize
 
 pub fn lend_in(unit: Unit, n: usize, out: &mut [u8], at: usize) -> Played
     requires { ⌜ n ≤ 2048 ⌝ }
-    ensures { λ r. ⌜ Leaves (told (step (deviceOf unit) (quiet (in-poll n)))) (now (out .entry), at) (now (out .exit)) r ⌝ }
+    ensures { λ r. ⌜ Puts (told (step (deviceOf unit) (quiet (in-poll n)))) (now (out .entry), at) (now (out .exit)) r ⌝ }
 {
     let mut buffer = [FILL; BYTES];
     in_into(unit, &mut buffer, n, out, at)
@@ -79,7 +79,7 @@ pub fn lend_in(unit: Unit, n: usize, out: &mut [u8], at: usize) -> Played
 
 pub fn lend_interrupt(unit: Unit, n: usize, out: &mut [u8], at: usize) -> Played
     requires { ⌜ n ≤ 2048 ⌝ }
-    ensures { λ r. ⌜ Leaves (told (step (deviceOf unit) (quiet (interrupt-poll n)))) (now (out .entry), at) (now (out .exit)) r ⌝ }
+    ensures { λ r. ⌜ Puts (told (step (deviceOf unit) (quiet (interrupt-poll n)))) (now (out .entry), at) (now (out .exit)) r ⌝ }
 {
     let mut buffer = [FILL; BYTES];
     interrupt_into(unit, &mut buffer, n, out, at)
@@ -87,7 +87,7 @@ pub fn lend_interrupt(unit: Unit, n: usize, out: &mut [u8], at: usize) -> Played
 
 pub fn lend_take(unit: Unit, n: usize, out: &mut [u8], at: usize) -> Played
     requires { ⌜ n ≤ 2048 ⌝ }
-    ensures { λ r. ⌜ Leaves (told (step (deviceOf unit) (take-into n))) (now (out .entry), at) (now (out .exit)) r ⌝ }
+    ensures { λ r. ⌜ Puts (told (step (deviceOf unit) (take-into n))) (now (out .entry), at) (now (out .exit)) r ⌝ }
 {
     let mut buffer = [FILL; BYTES];
     message_into(unit, &mut buffer, n, out, at)

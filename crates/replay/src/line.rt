@@ -22,12 +22,12 @@ use text_words::words::part;
 use unit::types::Unit;
 ghost use Rattle.text_lines.specs.Lines.{row};
 ghost use Rattle.unit.specs.Promise.{deviceOf};
-ghost use Rattle.replay.specs.Play.{leaves, played};
-ghost use Rattle.replay.specs.Played.{Leaves};
+ghost use Rattle.replay.specs.Play.{carriedOut, played};
+ghost use Rattle.replay.specs.Played.{Puts};
 
 // A call with the first two words behind its name.
 fn called(unit: Unit, name: Name, first: &[u8], second: &[u8], out: &mut [u8], at: usize) -> Played
-    ensures { λ r. ⌜ Leaves (leaves (deviceOf unit) (row name .says (now (first .entry)) (now (second .entry)))) (now (out .entry), at) (now (out .exit)) r ⌝ }
+    ensures { λ r. ⌜ Puts (carriedOut (deviceOf unit) (row name .asks (now (first .entry)) (now (second .entry)))) (now (out .entry), at) (now (out .exit)) r ⌝ }
 {
     match name {
         Name::Power => power(unit, first, out, at),
@@ -48,7 +48,7 @@ fn called(unit: Unit, name: Name, first: &[u8], second: &[u8], out: &mut [u8], a
 
 // A line is played: its answer goes into `out` at `at`.
 pub fn play(unit: Unit, line: &[u8], out: &mut [u8], at: usize) -> Played
-    ensures { λ r. ⌜ Leaves (played (deviceOf unit) (now (line .entry))) (now (out .entry), at) (now (out .exit)) r ⌝ }
+    ensures { λ r. ⌜ Puts (played (deviceOf unit) (now (line .entry))) (now (out .entry), at) (now (out .exit)) r ⌝ }
 {
     let asked = read_line(line);
     match asked {

@@ -4,19 +4,26 @@ mod feed; // the lines in what was read
 mod lent; // the calls that are lent a buffer
 mod line; // one line
 mod played; // what playing a line leaves
+mod rest; // the part of a line that waits for its end
 mod unread; // the answer to a word that cannot be read
 
 use feed::Feed;
 use feed::ended;
 use feed::first_feed;
-use feed::kept;
 use feed::whole_lines;
 use feed::written;
 use libc::STDIN_FILENO;
+use rest::hold;
 use text_words::words::first_part;
+ghost use mathlib.Core.Path.{_≡_};
+ghost use mathlib.Core.Bool.{false};
+ghost use Prim.Native.Nat.{_+_, min};
+ghost use Rattle.replay.specs.Feed.{Passes, Plays};
 
 // The place behind n more bytes, and none past `most`.
-fn behind(at: usize, n: usize, most: usize) -> usize {
+fn behind(at: usize, n: usize, most: usize) -> usize
+    ensures { λ r. ⌜ r ≡ min (at + n) most ⌝ }
+{
     if n <= most {
         if at <= most - n {
             return at + n;
@@ -36,15 +43,19 @@ fn filled(input: &mut [u8], held: usize) -> usize {
 }
 
 // The input is at its end: a last line without a newline counts.
-fn last_turn(feed: Feed, input: &[u8], output: &mut [u8]) -> Feed {
+fn last_turn(feed: Feed, input: &[u8], output: &mut [u8]) -> Feed
+    ensures { λ r. ⌜ (Passes feed (now (input .entry)) r) × (r .going ≡ false) ⌝ }
+{
     let after = ended(feed, input, output);
     let mut last = written(after, output);
-    last.is_open = false;
+    last.going = false;
     last
 }
 
 // The lines in what was read are played, and their answers written.
-fn some_lines(feed: Feed, input: &[u8], output: &mut [u8]) -> Feed {
+fn some_lines(feed: Feed, input: &[u8], output: &mut [u8]) -> Feed
+    ensures { λ r. ⌜ Plays feed (now (input .entry)) r ⌝ }
+{
     let after = whole_lines(feed, input, output);
     written(after, output)
 }
@@ -57,7 +68,7 @@ fn turn(feed: Feed, input: &mut [u8], output: &mut [u8]) -> Feed {
         return last_turn(feed, first_part(input, held), output);
     }
     let after = some_lines(feed, first_part(input, end), output);
-    kept(after, input, end)
+    hold(after, input, end)
 }
 
 // A proved loop has to end, and nothing says that the input does: the turns count down from a number that no run uses up.
@@ -66,7 +77,7 @@ fn serve(input: &mut [u8], output: &mut [u8]) {
     let mut turns = u64::MAX;
     while turns > 0 {
         feed = turn(feed, input, output);
-        if !feed.is_open {
+        if !feed.going {
             return;
         }
         turns -= 1;

@@ -5,7 +5,7 @@ use unit::types::Done;
 use unit::types::Told;
 use unit::types::Unit;
 ghost use Rattle.unit.specs.Promise.{deviceOf};
-ghost use Rattle.replay.specs.Played.{Leaves, finished, shown};
+ghost use Rattle.replay.specs.Played.{Puts, finished, shown};
 
 // The unit after the line, and the place behind its answer.
 pub struct Played {
@@ -15,7 +15,7 @@ pub struct Played {
 
 // The answer to a call that is lent no buffer.
 pub fn answered(done: Done, out: &mut [u8], at: usize) -> Played
-    ensures { λ r. ⌜ Leaves (finished done) (now (out .entry), at) (now (out .exit)) r ⌝ }
+    ensures { λ r. ⌜ Puts (finished done) (now (out .entry), at) (now (out .exit)) r ⌝ }
 {
     let unit = done.unit;
     let verdict = done.verdict;
@@ -25,7 +25,7 @@ pub fn answered(done: Done, out: &mut [u8], at: usize) -> Played
 
 // The answer to a call that was lent this buffer.
 pub fn answered_with(told: Told, buffer: &[u8], out: &mut [u8], at: usize) -> Played
-    ensures { λ r. ⌜ Leaves (shown told (now (buffer .entry))) (now (out .entry), at) (now (out .exit)) r ⌝ }
+    ensures { λ r. ⌜ Puts (shown told (now (buffer .entry))) (now (out .entry), at) (now (out .exit)) r ⌝ }
 {
     let unit = told.unit;
     let verdict = told.verdict;

@@ -11,7 +11,7 @@ ghost use mathlib.Core.Path.{_≡_};
 ghost use Rattle.text_put.specs.Text.{typed};
 ghost use Rattle.unit.specs.Promise.{deviceOf};
 ghost use Rattle.replay.specs.Play.{unreadText, asItWas};
-ghost use Rattle.replay.specs.Played.{Leaves};
+ghost use Rattle.replay.specs.Played.{Puts};
 
 fn put_unread(out: &mut [u8], at: usize, word: &[u8], why: Unread) -> usize
     ensures { λ r. ⌜ (now (out .exit), r) ≡ typed (now (out .entry), at) (unreadText (now (word .entry)) why) ⌝ }
@@ -27,7 +27,7 @@ fn put_unread(out: &mut [u8], at: usize, word: &[u8], why: Unread) -> usize
 
 // The unit is as it was.
 pub fn unread(unit: Unit, word: &[u8], why: Unread, out: &mut [u8], at: usize) -> Played
-    ensures { λ r. ⌜ Leaves (asItWas (deviceOf unit) (unreadText (now (word .entry)) why)) (now (out .entry), at) (now (out .exit)) r ⌝ }
+    ensures { λ r. ⌜ Puts (asItWas (deviceOf unit) (unreadText (now (word .entry)) why)) (now (out .entry), at) (now (out .exit)) r ⌝ }
 {
     let end = put_unread(out, at, word, why);
     Played { unit, at: end }

@@ -30,8 +30,8 @@ module _ (u : List ℕ) (lent : Lent u) (c : Call) where
 
   unchanged-by : isUnit u ≡ true → (told (resultBytes (step (unitIn u) c)) ≡ DONE → ⊥) → leaves (told (resultBytes (step (unitIn u) c))) ≡ unchanged → unitBytes (step (unitIn u) c .unit) ≡ u
   unchanged-by is n e =
-      let left = subst (λ (x : Leaves). LeftAs x (unitIn u) (step (unitIn u) c)) e (leaves-table (unitIn u) c n) in
-      ap (λ (q : Result). unitBytes (q .unit)) left ∙ again u lent is
+      let stays = subst (λ (x : Leaves). LeftAs x (unitIn u) (step (unitIn u) c)) e (leaves-table (unitIn u) c n) in
+      ap (λ (q : Result). unitBytes (q .unit)) stays ∙ again u lent is
 
   -- a call that the table answers with the unit unchanged writes no byte of it, whatever bytes it was lent
   pub refused-unchanged : (told (onBytes u c) ≡ DONE → ⊥) → leaves (told (onBytes u c)) ≡ unchanged → onBytes u c .unit ≡ u

@@ -22,11 +22,11 @@ use Rattle.c_promise.proofs.Called.{on-unit, on-none}
 -- ** any promise
 
 module _ (q : BytesResult) (u′ : List ℕ) (r : TmcAnswer) where
-  pub leaves-unique : Returns q u′ r → (u″ : List ℕ) (r′ : TmcAnswer) → Returns q u″ r′ → (u′ ≡ u″) × (r ≡ r′)
-  leaves-unique h u″ r′ k = (h .unit ∙ sym (k .unit), h .answer ∙ sym (k .answer))
+  pub returns-unique : Returns q u′ r → (u″ : List ℕ) (r′ : TmcAnswer) → Returns q u″ r′ → (u′ ≡ u″) × (r ≡ r′)
+  returns-unique h u″ r′ k = (h .unit ∙ sym (k .unit), h .answer ∙ sym (k .answer))
 
   pub fills-unique : (b b′ : List ℕ) → Fills q b b′ u′ r → (b″ u″ : List ℕ) (r′ : TmcAnswer) → Fills q b b″ u″ r′ → (u′ ≡ u″) × (r ≡ r′) × (b′ ≡ b″)
-  fills-unique b b′ h b″ u″ r′ k = let e = leaves-unique (h .left) u″ r′ (k .left) in (e .0, e .1, h .buffer ∙ sym (k .buffer))
+  fills-unique b b′ h b″ u″ r′ k = let e = returns-unique (h .returned) u″ r′ (k .returned) in (e .0, e .1, h .buffer ∙ sym (k .buffer))
 
 module _ (q : Result) (u′ : List ℕ) (r : TmcAnswer) where
   pub left-step : q .answer .bytes ≡ [] → Returns (resultBytes q) u′ r → IsStep q u′ r
@@ -35,10 +35,10 @@ module _ (q : Result) (u′ : List ℕ) (r : TmcAnswer) where
   pub filled-step : (b b′ : List ℕ) → Fills (resultBytes q) b b′ u′ r → IsStepInto q b b′ u′ r
   filled-step b b′ h =
       let bytes = q .answer .bytes in
-      let e : length bytes ≡ r .len = sym (ap (λ (a : TmcAnswer). a .len) (h .left .answer)) in
+      let e : length bytes ≡ r .len = sym (ap (λ (a : TmcAnswer). a .len) (h .returned .answer)) in
       record {
-        unit = h .left .unit;
-        verdict = ap (λ (a : TmcAnswer). a .verdict) (h .left .answer);
+        unit = h .returned .unit;
+        verdict = ap (λ (a : TmcAnswer). a .verdict) (h .returned .answer);
         bytes = ap (take (r .len)) (h .buffer) ∙ take-at bytes (drop (length bytes) b) (r .len) e;
         rest = ap (drop (r .len)) (h .buffer) ∙ drop-at bytes (drop (length bytes) b) (r .len) e ∙ ap (λ (k : ℕ). drop k b) e;
       }
@@ -66,5 +66,5 @@ module _ (u : List ℕ) (c : Call) (u′ : List ℕ) (r : TmcAnswer) where
 
     pub no-unit-into : (b b′ : List ℕ) → Fills (onBytes u c) b b′ u′ r → (u′ ≡ u) × (r ≡ answerOf (numbered UNSOUND)) × (b′ ≡ b)
     no-unit-into b b′ h =
-        let e = no-unit (h .left) in
+        let e = no-unit (h .returned) in
         (e .0, e .1, subst (λ (q : BytesResult). b′ ≡ into (q .answer .bytes) b) (on-none u c is) (h .buffer))

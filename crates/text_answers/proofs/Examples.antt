@@ -5,7 +5,7 @@ use Rattle.rules.specs.Choice.{pick, no, _≠ᵇ_, _and_}
 use Rattle.port.specs.Parts.{fresh}
 use Rattle.text_put.specs.Text.{ascii, spelled, _then_}
 use Rattle.text_put.specs.Numbers.{digitOf, zerosInFront, hexText}
-use Rattle.text_answers.specs.Answer.{FILL, tellsText, verdictText, doneText, filled, kept, endText, toldText}
+use Rattle.text_answers.specs.Answer.{FILL, tellsText, verdictText, doneText, filled, filledBehind, endText, toldText}
 use Rattle.text_answers.specs.Overview.{flagText, haltedText, portText, haltsText, messageText, replyText, tagsText, overviewText, notifyText, moreText}
 use Rattle.text_answers.specs.Wrong.{shownByte, quotedText, wrongText, unknownNameText, tooLargeText, noHexDigitText}
 
@@ -19,7 +19,7 @@ told :
     × (toldText (record { number = 0; tells = 2 }) 0 (FILL ∷ FILL ∷ []) ≡ ascii "0 pulse -\n")
     × (toldText (record { number = 0; tells = 0 }) 1 (0x2a ∷ 0x0a ∷ FILL ∷ []) ≡ ascii "0 2a spilled\n")
     × (toldText (record { number = 5; tells = 0 }) 0 (FILL ∷ 0 ∷ []) ≡ ascii "5 spilled\n")
-unfolding digitOf zerosInFront hexText spelled tellsText verdictText filled kept endText toldText _then_ pick _and_
+unfolding digitOf zerosInFront hexText spelled tellsText verdictText filled filledBehind endText toldText _then_ pick _and_
 told = (refl, refl, refl, refl)
 
 state :

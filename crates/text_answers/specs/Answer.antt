@@ -33,8 +33,8 @@ filled [] = true
 filled (b ∷ bytes) = b =ᵇ FILL and filled bytes
 
 -- the `len` bytes of an answer fit their buffer, and every byte past them is as it was filled
-unfoldable pub kept : List ℕ → ℕ → Bool
-kept buffer len = len ≤ᵇ length buffer and filled (drop len buffer)
+unfoldable pub filledBehind : List ℕ → ℕ → Bool
+filledBehind buffer len = len ≤ᵇ length buffer and filled (drop len buffer)
 
 -- the end of an answer: a word where the call has written what it was not to write
 unfoldable pub endText : Bool → List ℕ
@@ -45,5 +45,5 @@ endText isKept = pick isKept (ascii "\n") (ascii " spilled\n")
 unfoldable pub toldText : Verdict → ℕ → List ℕ → List ℕ
 toldText v len buffer =
     pick (v .number =ᵇ DONE)
-    (verdictText v then ascii " " then hexText (take len buffer) then endText (kept buffer len))
+    (verdictText v then ascii " " then hexText (take len buffer) then endText (filledBehind buffer len))
     (verdictText v then endText (filled buffer))

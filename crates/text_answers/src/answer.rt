@@ -10,7 +10,7 @@ use text_put::put_hex;
 ghost use mathlib.Core.Path.{_≡_};
 ghost use lib.ListN.{take};
 ghost use Rattle.text_put.specs.Text.{typed};
-ghost use Rattle.text_answers.specs.Answer.{tellsText, verdictText, doneText, filled, kept, endText, toldText};
+ghost use Rattle.text_answers.specs.Answer.{tellsText, verdictText, doneText, filled, filledBehind, endText, toldText};
 
 // What a lent buffer is filled with before a call.
 pub const FILL: u8 = 0xa5;
@@ -57,8 +57,8 @@ fn is_filled(bytes: &[u8]) -> bool
 }
 
 // Is each byte past an answer of `len` bytes as it was filled?
-fn is_kept(buffer: &[u8], len: usize) -> bool
-    ensures { λ r. ⌜ r ≡ kept (now (buffer .entry)) len ⌝ }
+fn is_filled_behind(buffer: &[u8], len: usize) -> bool
+    ensures { λ r. ⌜ r ≡ filledBehind (now (buffer .entry)) len ⌝ }
 {
     if len <= buffer.len() {
         return is_filled(&buffer[len..]);
@@ -96,5 +96,5 @@ pub fn put_told(out: &mut [u8], at: usize, verdict: Verdict, len: usize, buffer:
     }
     let mark = put_byte(out, next, b' ');
     let end = put_hex(out, mark, written(buffer, len));
-    put_end(out, end, is_kept(buffer, len))
+    put_end(out, end, is_filled_behind(buffer, len))
 }

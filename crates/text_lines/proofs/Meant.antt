@@ -30,7 +30,7 @@ module _ (line : List ℕ) where
       let most = row name .most + 1 in
       choose Means _ _ _ _ _ _ (empty-missing least (said line)) (ap (λ (w : List ℕ). wrong (too-few w)) (line-part 0 line))
       (choose Means _ _ _ _ _ _ (ap no (empty-missing most (said line))) (ap (λ (w : List ℕ). wrong (too-many w)) (line-part most line))
-      (λ i. row name .says (line-part 1 line i) (line-part 2 line i)))
+      (λ i. row name .asks (line-part 1 line i) (line-part 2 line i)))
 
   by-text : Means (askedText (said line)) (meaningOf (said line))
   unfolding Means askedText

@@ -32,7 +32,7 @@ asked line = pick (LONGEST <ᵇ length line) TooLong (askedText (said line))
 
 -- what a line that asks so means: the bytes at the places of its words
 abbrev pub meant : List ℕ → Asked → Meaning
-meant line (For call) = row (call .name) .says (part line (call .first)) (part line (call .second))
+meant line (For call) = row (call .name) .asks (part line (call .first)) (part line (call .second))
 meant line Nothing = nothing
 meant line TooLong = wrong too-long
 meant line (NoCall w) = wrong (no-call (part line w))

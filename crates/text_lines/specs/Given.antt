@@ -14,7 +14,7 @@ use Rattle.text_lines.specs.declared.given.Unread.the-variants.{NoDecima
 use Rattle.text_lines.specs.declared.given.Size.{Size}
 use Rattle.text_lines.specs.declared.given.Size.the-variants.{Packet, NoSize}
 use Rattle.text_lines.specs.declared.given.Length.{Length}
-use Rattle.text_lines.specs.declared.given.Length.the-variants.{Buffer, Left, NoLength}
+use Rattle.text_lines.specs.declared.given.Length.the-variants.{Buffer, OfTheCall, NoLength}
 use Rattle.text_lines.specs.declared.given.Given.{Given}
 use Rattle.text_lines.specs.declared.given.Given.the-variants.{Bytes, NoBytes}
 use Rattle.text_lines.specs.declared.given.Status.{Status}
@@ -42,7 +42,7 @@ lengthRead NotDecimal = NoLength NoDecimal
 lengthRead TooLarge = NoLength (Above LARGEST-BUFFER)
 
 unfoldable pub lengthOf : List ℕ → Length
-lengthOf w = pick (isMissing w) Left (lengthRead (readDecimal LARGEST-BUFFER w))
+lengthOf w = pick (isMissing w) OfTheCall (lengthRead (readDecimal LARGEST-BUFFER w))
 
 -- bytes: how many
 abbrev pub givenRead : ReadHex → Given
@@ -54,10 +54,10 @@ unfoldable pub givenBy : List ℕ → Given
 givenBy w = givenRead (readHex w)
 
 -- a status byte: one byte
-abbrev pub statusRead : ReadHex → List ℕ → Status
-statusRead (Count n) bytes = pick (n =ᵇ 1) (Byte (getD bytes 0 0)) (NoByte NoStatus)
-statusRead (NotHex b) bytes = NoByte (NoHexDigit b)
-statusRead Odd bytes = NoByte OddDigits
+abbrev pub byteRead : ReadHex → List ℕ → Status
+byteRead (Count n) bytes = pick (n =ᵇ 1) (Byte (getD bytes 0 0)) (NoByte NoStatus)
+byteRead (NotHex b) bytes = NoByte (NoHexDigit b)
+byteRead Odd bytes = NoByte OddDigits
 
 unfoldable pub statusOf : List ℕ → Status
-statusOf w = statusRead (readHex w) (hexBytes w)
+statusOf w = byteRead (readHex w) (hexBytes w)

@@ -14,7 +14,7 @@ use Rattle.text_lines.specs.declared.given.Unread.{Unread}
 use Rattle.text_lines.specs.declared.given.Size.{Size}
 use Rattle.text_lines.specs.declared.given.Size.the-variants.{Packet, NoSize}
 use Rattle.text_lines.specs.declared.given.Length.{Length}
-use Rattle.text_lines.specs.declared.given.Length.the-variants.{Buffer, Left, NoLength}
+use Rattle.text_lines.specs.declared.given.Length.the-variants.{Buffer, OfTheCall, NoLength}
 use Rattle.text_lines.specs.declared.given.Given.{Given}
 use Rattle.text_lines.specs.declared.given.Given.the-variants.{Bytes, NoBytes}
 use Rattle.text_lines.specs.declared.given.Status.{Status}
@@ -66,7 +66,7 @@ bySize w (NoSize why) call = wrong (unread w why)
 
 abbrev pub byLength : List ℕ → Length → (Lent → Meaning) → Meaning
 byLength w (Buffer n) call = call (of-length n)
-byLength w Left call = call of-the-call
+byLength w OfTheCall call = call of-the-call
 byLength w (NoLength why) call = wrong (unread w why)
 
 abbrev pub byBytes : List ℕ → Given → (List ℕ → Meaning) → Meaning
@@ -97,11 +97,11 @@ pub record Row : Type 0 where
   pub name : List ℕ
   pub least : ℕ
   pub most : ℕ
-  pub says : List ℕ → List ℕ → Meaning
+  pub asks : List ℕ → List ℕ → Meaning
 
 infix 2 _∣_to_▹_
 abbrev pub _∣_to_▹_ : String → ℕ → ℕ → (List ℕ → List ℕ → Meaning) → Row
-name ∣ least to most ▹ says = record { name = ascii name; least = least; most = most; says = says }
+name ∣ least to most ▹ asks = record { name = ascii name; least = least; most = most; asks = asks }
 
 abbrev pub row : Name → Row
 row Power = "power" ∣ 1 to 1 ▹ λ p _. P p power
@@ -118,15 +118,8 @@ row Suspend = "suspend" ∣ 0 to 0 ▹ λ _ _. suspend
 row State = "state" ∣ 0 to 0 ▹ λ _ _. state
 row More = "more" ∣ 0 to 0 ▹ λ _ _. more
 
--- the calls with no word behind their names, with those before them that lend a buffer, and with those before them that need a word
-abbrev pub bare : List Name
-bare = Local ∷ Reset ∷ Suspend ∷ State ∷ More ∷ []
-
-abbrev pub lending : List Name
-lending = In ∷ Interrupt ∷ Take ∷ bare
-
 abbrev pub names : List Name
-names = Power ∷ Setup ∷ Out ∷ Offer ∷ SetStatus ∷ lending
+names = Power ∷ Setup ∷ Out ∷ In ∷ Interrupt ∷ Take ∷ Offer ∷ SetStatus ∷ Local ∷ Reset ∷ Suspend ∷ State ∷ More ∷ []
 
 -- the call of these whose name the word is
 abbrev pub among : List Name → List ℕ → Named
@@ -144,7 +137,7 @@ called s r =
     first
     (isMissing (word (r .least) s) ⇒ wrong (too-few (word 0 s)) ∣
     no (isMissing (word (r .most + 1) s)) ⇒ wrong (too-many (word (r .most + 1) s)) ∣ [])
-    (r .says (word 1 s) (word 2 s))
+    (r .asks (word 1 s) (word 2 s))
 
 abbrev pub byName : List ℕ → Named → Meaning
 byName s Unknown = wrong (no-call (word 0 s))

@@ -42,7 +42,7 @@ pub fn given_size(word: &[u8]) -> Size
 
 pub enum Length {
     Buffer(u16),
-    Left,
+    OfTheCall,
     NoLength(Unread),
 }
 
@@ -51,7 +51,7 @@ pub fn given_length(word: &[u8]) -> Length
     ensures { λ r. ⌜ r ≡ lengthOf (now (word .entry)) ⌝ }
 {
     if word.len() == 0 {
-        return Length::Left;
+        return Length::OfTheCall;
     }
     let read = decimal(word, LARGEST_BUFFER);
     match read {

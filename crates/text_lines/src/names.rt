@@ -2,7 +2,9 @@
 use text_words::words::same;
 ghost use mathlib.Core.Path.{_≡_};
 ghost use Prim.Native.Nat.{_≤_};
-ghost use Rattle.text_lines.specs.Lines.{row, bare, lending, among, nameOf};
+ghost use Rattle.rules.specs.Choice.{pick};
+ghost use Rattle.text_words.specs.Text.{same};
+ghost use Rattle.text_lines.specs.Lines.{row, nameOf};
 
 pub enum Name {
     Power,
@@ -26,63 +28,33 @@ pub enum Named {
     Unknown,
 }
 
-// A call that has no word behind its name.
-fn bare_name(word: &[u8]) -> Named
-    ensures { λ r. ⌜ r ≡ among bare (now (word .entry)) ⌝ }
+// This call where the word is its name, and else what was found before.
+fn or_named(found: Named, word: &[u8], name: &[u8], call: Name) -> Named
+    ensures { λ r. ⌜ r ≡ pick (same (now (word .entry)) (now (name .entry))) (Named.Known call) found ⌝ }
 {
-    if same(word, b"local") {
-        return Named::Known(Name::Local);
+    if same(word, name) {
+        return Named::Known(call);
     }
-    if same(word, b"reset") {
-        return Named::Known(Name::Reset);
-    }
-    if same(word, b"suspend") {
-        return Named::Known(Name::Suspend);
-    }
-    if same(word, b"state") {
-        return Named::Known(Name::State);
-    }
-    if same(word, b"more") {
-        return Named::Known(Name::More);
-    }
-    Named::Unknown
+    found
 }
 
-// One of those, or a call that lends a buffer and needs no word.
-fn lending_name(word: &[u8]) -> Named
-    ensures { λ r. ⌜ r ≡ among lending (now (word .entry)) ⌝ }
-{
-    if same(word, b"in") {
-        return Named::Known(Name::In);
-    }
-    if same(word, b"in3") {
-        return Named::Known(Name::Interrupt);
-    }
-    if same(word, b"take") {
-        return Named::Known(Name::Take);
-    }
-    bare_name(word)
-}
-
+// The names from the last to the first, so that the first counts.
 pub fn name_of(word: &[u8]) -> Named
     ensures { λ r. ⌜ r ≡ nameOf (now (word .entry)) ⌝ }
 {
-    if same(word, b"power") {
-        return Named::Known(Name::Power);
-    }
-    if same(word, b"setup") {
-        return Named::Known(Name::Setup);
-    }
-    if same(word, b"out") {
-        return Named::Known(Name::Out);
-    }
-    if same(word, b"offer") {
-        return Named::Known(Name::Offer);
-    }
-    if same(word, b"status") {
-        return Named::Known(Name::Status);
-    }
-    lending_name(word)
+    let found = or_named(Named::Unknown, word, b"more", Name::More);
+    let found = or_named(found, word, b"state", Name::State);
+    let found = or_named(found, word, b"suspend", Name::Suspend);
+    let found = or_named(found, word, b"reset", Name::Reset);
+    let found = or_named(found, word, b"local", Name::Local);
+    let found = or_named(found, word, b"status", Name::Status);
+    let found = or_named(found, word, b"offer", Name::Offer);
+    let found = or_named(found, word, b"take", Name::Take);
+    let found = or_named(found, word, b"in3", Name::Interrupt);
+    let found = or_named(found, word, b"in", Name::In);
+    let found = or_named(found, word, b"out", Name::Out);
+    let found = or_named(found, word, b"setup", Name::Setup);
+    or_named(found, word, b"power", Name::Power)
 }
 
 // The fewest words behind a name.

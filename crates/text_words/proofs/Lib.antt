@@ -4,4 +4,5 @@ pub mod Same
 pub mod Digits
 pub mod Hex
 pub mod Places
+pub mod Cut
 pub mod Examples

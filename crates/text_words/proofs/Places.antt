@@ -22,16 +22,16 @@ slice-start (suc i) n [] = rw suc-add (sym (take-nil n))
 slice-start (suc i) n (b ∷ s) = rw suc-add (slice-start i n s)
 
 -- what a search leaves is what is left from its place on
-pub left : (t : ℕ → Bool) (s : List ℕ) (i : ℕ) → drop (seek t s i) s ≡ since t (drop i s)
-left t s i = sym (drop-drop (place t (drop i s)) i s)
+pub since-seek : (t : ℕ → Bool) (s : List ℕ) (i : ℕ) → drop (seek t s i) s ≡ since t (drop i s)
+since-seek t s i = sym (drop-drop (place t (drop i s)) i s)
 
 module _ (s : List ℕ) (i : ℕ) where
   -- the next word, and what is left behind it
   pub next-part : part s (nextWord s i) ≡ firstWord (drop i s)
-  next-part = slice-start (seek isSolid s i) _ s ∙ ap (λ (x : List ℕ). take (place isBlank x) x) (left isSolid s i)
+  next-part = slice-start (seek isSolid s i) _ s ∙ ap (λ (x : List ℕ). take (place isBlank x) x) (since-seek isSolid s i)
 
   pub next-left : drop (nextWord s i .to) s ≡ behind (drop i s)
-  next-left = left isBlank s (seek isSolid s i) ∙ ap (λ (x : List ℕ). since isBlank x) (left isSolid s i)
+  next-left = since-seek isBlank s (seek isSolid s i) ∙ ap (λ (x : List ℕ). since isBlank x) (since-seek isSolid s i)
 
 -- what is left of a text behind its first n words
 rest : ℕ → List ℕ → List ℕ

@@ -54,8 +54,8 @@ stateOf u = deviceOf u .state
 abbrev pub St : U → Fml
 St u = S.the-row .own (stateOf u) (svals (stateOf u))
 
-abbrev pub left : U → State → U
-left u st = unitOf (withState (deviceOf u) st)
+abbrev pub unitWith : U → State → U
+unitWith u st = unitOf (withState (deviceOf u) st)
 
 module _ {M : Type 1} (𝓤 : URA M) (κ : Lft) (q : Share) (γ : GName) (b o : ℕ) where
   -- the borrow at h, open; with a unit in memory, and more; and closed
@@ -83,7 +83,7 @@ module _ {M : Type 1} (𝓤 : URA M) (κ : Lft) (q : Share) (γ : GName) (b o : 
         (LL.owes S.the-type S′.the-laws (stateOf h) (LL.owed T.the-type T′.the-laws h _ is .1 .1)) $ by ! asks))
 
     pub closed : (h′ : U) (st : State) (ns : Vals) (w : Val) → Is S.the-row st (svals st) → Fits τ w → w ≡ vstruct (vcons (only (svals st)) ns) → ent 𝓤 (H .⇛ (End ns)) (End ns)
-        → ent 𝓤 (⋆ 𝓤 H A (Closed (left h′ st) i j)) (End ns) → ent 𝓤 (⋆ 𝓤 H A (Opened h h′ i j)) (mean 𝓤 H A (Answering 𝓤 H A T′.mir τ b o End w))
+        → ent 𝓤 (⋆ 𝓤 H A (Closed (unitWith h′ st) i j)) (End ns) → ent 𝓤 (⋆ 𝓤 H A (Opened h h′ i j)) (mean 𝓤 H A (Answering 𝓤 H A T′.mir τ b o End w))
     closed h′ st ns w is-st fits e soaks ends =
         qed W (Opened h h′ i j) ∵ updating ! $
         use1 W (some (λ (u : Val). ‵ (fat fullShare T′.mir b o u) ⊛ ‵ (T.the-row .own h′ (u ∷ [])))) (part-out-at 𝓤 H A W T.the-row refl fullShare h′ b o T′.mir refl) $ pick !
@@ -91,12 +91,12 @@ module _ {M : Type 1} (𝓤 : URA M) (κ : Lft) (q : Share) (γ : GName) (b o : 
         facts ! T.the-row (Is T.the-row) (shows 𝓤 H A T.the-row) h′ (u ∷ [])
         (λ is. rewrite ! 0 (λ (u : Val). ‵ (fat fullShare T′.mir b o u)) (ap only (LL.tells T.the-type T′.the-laws h′ _ is)) refl $ at-once ! $
         show ! (λ x. mean 𝓤 H A (Back 𝓤 H A T′.mir τ b o End w x)) (fieldsOf (only (vals h′)), fieldsOf (only (svals st)), ns) $ check ! (fits, e) $ frame ! $ assume !
-        (‵ (fat fullShare T′.mir b o (only (vals (left h′ st))))) $ suffices ! (H .⇛ (End ns)) soaks $ updating ! $
-        use1 W (‵ (cellAt fullShare (T.the-row .mir) (vals (left h′ st)) b o)) (W .laws .at-raw fullShare T′.mir b o (only (vals (left h′ st)))) $ let fields =
+        (‵ (fat fullShare T′.mir b o (only (vals (unitWith h′ st))))) $ suffices ! (H .⇛ (End ns)) soaks $ updating ! $
+        use1 W (‵ (cellAt fullShare (T.the-row .mir) (vals (unitWith h′ st)) b o)) (W .laws .at-raw fullShare T′.mir b o (only (vals (unitWith h′ st)))) $ let fields =
         LL.owed T.the-type T′.the-laws h′ _ is in
-        owned ! T.the-row (Is T.the-row) (LL.makes T.the-type T′.the-plain 𝓤 H A) (left h′ st) (vals (left h′ st))
-        (LL.owes T.the-type T′.the-laws (left h′ st) (fields .0, (fields .1 .0, LL.owed S.the-type S′.the-laws st _ is-st))) $
-        move ! (1 ∷ 0 ∷ []) $ closes ! tt T.the-row (left h′ st) (vals (left h′ st)) b o $ at-once ! $ by ! ends))
+        owned ! T.the-row (Is T.the-row) (LL.makes T.the-type T′.the-plain 𝓤 H A) (unitWith h′ st) (vals (unitWith h′ st))
+        (LL.owes T.the-type T′.the-laws (unitWith h′ st) (fields .0, (fields .1 .0, LL.owed S.the-type S′.the-laws st _ is-st))) $
+        move ! (1 ∷ 0 ∷ []) $ closes ! tt T.the-row (unitWith h′ st) (vals (unitWith h′ st)) b o $ at-once ! $ by ! ends))
 
 -- a call of what meets a contract, with what the caller keeps
 module _ {M : Type 1} (𝓤 : URA M) (H : Heap 𝓤) (A : Atoms 𝓤) (W : Given 𝓤 H A) (C : Calls 𝓤 H) (fm : FmC 𝓤 H (W .laws) C) where

@@ -1,12 +1,12 @@
 -- `replay::calls::more` meets its contract.
 use mathlib.Core.Path.{refl}
-use Rattle.replay.specs.Play.{leaves}
+use Rattle.replay.specs.Play.{carriedOut}
 use borrow.Author.Needs.{needs}
 use Rattle.replay.proofs.calls.more.Statement.{statement}
 use Rattle.replay.proofs.calls.more.Tie as tie
 
 pub more-spec : {M : Type 1} → statement M
-unfolding leaves
+unfolding carriedOut
 more-spec =
     tie.close
     (tie.spec

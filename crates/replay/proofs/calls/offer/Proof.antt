@@ -1,13 +1,13 @@
 -- `replay::calls::offer` meets its contract.
 use mathlib.Core.Path.{sym, _∙_}
-use Rattle.replay.specs.Play.{leaves}
+use Rattle.replay.specs.Play.{carriedOut}
 use Rattle.replay.proofs.Rooms.{started}
 use borrow.Author.Needs.{needs}
 use Rattle.replay.proofs.calls.offer.Statement.{statement}
 use Rattle.replay.proofs.calls.offer.Tie as tie
 
 pub offer-spec : {M : Type 1} → statement M
-unfolding leaves
+unfolding carriedOut
 offer-spec =
     tie.close
     (tie.spec

@@ -1,12 +1,12 @@
 -- `replay::calls::overview` meets its contract.
 use mathlib.Core.Path.{refl}
-use Rattle.replay.specs.Play.{leaves}
+use Rattle.replay.specs.Play.{carriedOut}
 use borrow.Author.Needs.{needs}
 use Rattle.replay.proofs.calls.overview.Statement.{statement}
 use Rattle.replay.proofs.calls.overview.Tie as tie
 
 pub overview-spec : {M : Type 1} → statement M
-unfolding leaves
+unfolding carriedOut
 overview-spec =
     tie.close
     (tie.spec

@@ -2,8 +2,8 @@
 use mathlib.Core.Path.{sym, ap, _∙_}
 use native.Mathlib.Nat.{min-le-right}
 use Rattle.unit.specs.Promise.{deviceOf}
-use Rattle.replay.specs.Play.{leaves, told}
-use Rattle.replay.proofs.Leaving.{leaving}
+use Rattle.replay.specs.Play.{carriedOut, told}
+use Rattle.replay.proofs.Putting.{putting}
 use Rattle.text_lines.proofs.Reading.{length-fits}
 use Rattle.replay.proofs.Rooms.{poll-room}
 use borrow.Author.Needs.{needs}
@@ -11,7 +11,7 @@ use Rattle.replay.proofs.calls.packet_in.Statement.{statement}
 use Rattle.replay.proofs.calls.packet_in.Tie as tie
 
 pub packet-in-spec : {M : Type 1} → statement M
-unfolding leaves
+unfolding carriedOut
 packet-in-spec =
     tie.close
     (tie.spec
@@ -23,7 +23,7 @@ packet-in-spec =
     (λ c. search needs)
     (λ c.
     rw (sym (c .before .before .before .before .before .before .before .given-length .ensures) ∙ c .before .before .before .before .before .enum-told .given .1)
-    (leaving (ap told (poll-room (deviceOf (c .before .before .before .before .before .before .before .before .before .before .args .unit))))
+    (putting (ap told (poll-room (deviceOf (c .before .before .before .before .before .before .before .before .before .before .args .unit))))
     (rw (c .before .before .before .before .within .ensures) at (c .before .before .lend-in .ensures))))
     (λ c. search needs)
     (λ c. rw (sym (c .before .before .before .before .before .before .before .before .given-length .ensures) ∙ c .before .before .before .before .before .before .given2 .given .1)

@@ -1,13 +1,13 @@
 -- `replay::calls::packet_interrupt` meets its contract.
 use mathlib.Core.Path.{sym, _∙_}
-use Rattle.replay.specs.Play.{leaves}
+use Rattle.replay.specs.Play.{carriedOut}
 use Rattle.text_lines.proofs.Reading.{length-fits}
 use borrow.Author.Needs.{needs}
 use Rattle.replay.proofs.calls.packet_interrupt.Statement.{statement}
 use Rattle.replay.proofs.calls.packet_interrupt.Tie as tie
 
 pub packet-interrupt-spec : {M : Type 1} → statement M
-unfolding leaves
+unfolding carriedOut
 packet-interrupt-spec =
     tie.close
     (tie.spec

@@ -1,13 +1,13 @@
 -- `replay::calls::packet_out` meets its contract.
 use mathlib.Core.Path.{sym, _∙_}
-use Rattle.replay.specs.Play.{leaves}
+use Rattle.replay.specs.Play.{carriedOut}
 use Rattle.replay.proofs.Rooms.{started}
 use borrow.Author.Needs.{needs}
 use Rattle.replay.proofs.calls.packet_out.Statement.{statement}
 use Rattle.replay.proofs.calls.packet_out.Tie as tie
 
 pub packet-out-spec : {M : Type 1} → statement M
-unfolding leaves
+unfolding carriedOut
 packet-out-spec =
     tie.close
     (tie.spec

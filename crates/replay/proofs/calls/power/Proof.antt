@@ -1,12 +1,12 @@
 -- `replay::calls::power` meets its contract.
 use mathlib.Core.Path.{sym, _∙_}
-use Rattle.replay.specs.Play.{leaves}
+use Rattle.replay.specs.Play.{carriedOut}
 use borrow.Author.Needs.{needs}
 use Rattle.replay.proofs.calls.power.Statement.{statement}
 use Rattle.replay.proofs.calls.power.Tie as tie
 
 pub power-spec : {M : Type 1} → statement M
-unfolding leaves
+unfolding carriedOut
 power-spec =
     tie.close
     (tie.spec

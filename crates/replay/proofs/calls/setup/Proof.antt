@@ -1,13 +1,13 @@
 -- `replay::calls::setup` meets its contract.
 use mathlib.Core.Path.{sym, _∙_}
-use Rattle.replay.specs.Play.{leaves}
+use Rattle.replay.specs.Play.{carriedOut}
 use Rattle.replay.proofs.Rooms.{started}
 use borrow.Author.Needs.{needs}
 use Rattle.replay.proofs.calls.setup.Statement.{statement}
 use Rattle.replay.proofs.calls.setup.Tie as tie
 
 pub setup-spec : {M : Type 1} → statement M
-unfolding leaves
+unfolding carriedOut
 setup-spec =
     tie.close
     (tie.spec

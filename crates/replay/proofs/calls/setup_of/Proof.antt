@@ -1,13 +1,13 @@
 -- `replay::calls::setup_of` meets its contract.
 use mathlib.Core.Path.{sym, _∙_}
-use Rattle.replay.specs.Play.{leaves}
+use Rattle.replay.specs.Play.{carriedOut}
 use Rattle.text_lines.proofs.Reading.{length-fits}
 use borrow.Author.Needs.{needs}
 use Rattle.replay.proofs.calls.setup_of.Statement.{statement}
 use Rattle.replay.proofs.calls.setup_of.Tie as tie
 
 pub setup-of-spec : {M : Type 1} → statement M
-unfolding leaves
+unfolding carriedOut
 setup-of-spec =
     tie.close
     (tie.spec

@@ -1,12 +1,12 @@
 -- `replay::calls::status` meets its contract.
 use mathlib.Core.Path.{sym, _∙_}
-use Rattle.replay.specs.Play.{leaves}
+use Rattle.replay.specs.Play.{carriedOut}
 use borrow.Author.Needs.{needs}
 use Rattle.replay.proofs.calls.status.Statement.{statement}
 use Rattle.replay.proofs.calls.status.Tie as tie
 
 pub status-spec : {M : Type 1} → statement M
-unfolding leaves
+unfolding carriedOut
 status-spec =
     tie.close
     (tie.spec

@@ -1,14 +1,14 @@
 -- `replay::calls::take` meets its contract.
 use mathlib.Core.Path.{sym, _∙_}
 use native.Mathlib.Omega.{arith}
-use Rattle.replay.specs.Play.{leaves}
+use Rattle.replay.specs.Play.{carriedOut}
 use Rattle.text_lines.proofs.Reading.{length-fits}
 use borrow.Author.Needs.{needs}
 use Rattle.replay.proofs.calls.take.Statement.{statement}
 use Rattle.replay.proofs.calls.take.Tie as tie
 
 pub take-spec : {M : Type 1} → statement M
-unfolding leaves
+unfolding carriedOut
 take-spec =
     tie.close
     (tie.spec

@@ -3,7 +3,7 @@ use mathlib.Core.Path.{sym}
 use lib.Seq.{length-take-le}
 use Rattle.port.specs.Step.{in-poll, quiet}
 use Rattle.unit.specs.Promise.{deviceOf}
-use Rattle.replay.proofs.Leaving.{leaving}
+use Rattle.replay.proofs.Putting.{putting}
 use Rattle.replay.proofs.Spilled.{lent-shown}
 use borrow.Author.Needs.{needs}
 use Rattle.replay.proofs.lent.in_into.Statement.{statement}
@@ -18,5 +18,5 @@ in-into-spec =
     (λ c.
     let s = c .before .before .before .before .before .before .before .before .before .before .before .before .before .before in
     let a = s .args in
-    leaving (lent-shown (deviceOf (a .unit)) (λ k. quiet (in-poll k)) (a .buffer .now) (a .n) _ _ (s .pre .0) (s .pre .1)
+    putting (lent-shown (deviceOf (a .unit)) (λ k. quiet (in-poll k)) (a .buffer .now) (a .n) _ _ (s .pre .0) (s .pre .1)
     (c .before .before .before .before .before .before .before .before .before .bulk-in .ensures)) (c .before .before .before .before .answered-with .ensures)))

@@ -1,11 +1,11 @@
 -- `replay::line::called` meets its contract.
-use Rattle.replay.specs.Play.{leaves}
+use Rattle.replay.specs.Play.{carriedOut}
 use borrow.Author.Needs.{needs}
 use Rattle.replay.proofs.line.called.Statement.{statement}
 use Rattle.replay.proofs.line.called.Tie as tie
 
 pub called-spec : {M : Type 1} → statement M
-unfolding leaves
+unfolding carriedOut
 called-spec =
     tie.close
     (tie.spec

@@ -3,13 +3,13 @@ use mathlib.Core.Path.{refl, ap, _∙_}
 use Rattle.text_put.proofs.Text.{typed-none}
 use Rattle.text_lines.specs.Asked.{meant}
 use Rattle.text_lines.proofs.Meant.{told}
-use Rattle.replay.specs.Play.{leaves, played}
+use Rattle.replay.specs.Play.{carriedOut, played}
 use borrow.Author.Needs.{needs}
 use Rattle.replay.proofs.line.play.Statement.{statement}
 use Rattle.replay.proofs.line.play.Tie as tie
 
 pub play-spec : {M : Type 1} → statement M
-unfolding leaves played
+unfolding carriedOut played
 play-spec =
     tie.close
     (tie.spec

@@ -30,7 +30,7 @@ put-told-spec =
     let c₁₄ = c₁₂ .before .before in
     let c₁₈ = c₁₄ .before .before .before .before in
     typed-true _ _ _ _ _ (eq-eqb _ _ (c₁₄ .if1 .left))
-    (typed-then _ (_, _) _ _ _ (rw (c₃ .is-kept .ensures) at (c₂ .put-end2 .ensures))
+    (typed-then _ (_, _) _ _ _ (rw (c₃ .is-filled-behind .ensures) at (c₂ .put-end2 .ensures))
     (typed-then _ (_, _) _ _ _ (rw (c₈ .written .ensures) at (c₇ .put-hex .ensures))
     (typed-then _ (_, _) _ _ _ (c₁₂ .put-byte .ensures)
     (c₁₈ .put-verdict .ensures))))))

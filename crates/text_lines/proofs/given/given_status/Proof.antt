@@ -11,7 +11,7 @@ use Rattle.text_words.specs.Numbers.{readHex, hexBytes, over}
 use Rattle.text_words.specs.declared.numbers.ReadHex.{ReadHex}
 use Rattle.text_words.specs.declared.numbers.ReadHex.the-variants.{Count}
 use Rattle.text_words.proofs.Hex.{count-length}
-use Rattle.text_lines.specs.Given.{statusRead, statusOf}
+use Rattle.text_lines.specs.Given.{byteRead, statusOf}
 use Rattle.text_lines.specs.declared.given.Unread.the-variants.{NoStatus}
 use Rattle.text_lines.specs.declared.given.Status.the-variants.{Byte, NoByte}
 use Rattle.text_lines.proofs.given.given_status.Statement.{statement}
@@ -24,11 +24,11 @@ module _ (w : List ℕ) (n : ℕ) (e : readHex w ≡ Count n) where
       let h = hexBytes w in
       ap (λ (x : List ℕ). Byte (getD x 0 0)) f
       ∙ ap Byte (List·getD-append h (drop (length h) b) 0 0 (omega (arith, count-length w n e)))
-      ∙ sym (ap (λ (r : ReadHex). statusRead r h) e ∙ at-true _ _ _ (eq-eqb n 1 q))
+      ∙ sym (ap (λ (r : ReadHex). byteRead r h) e ∙ at-true _ _ _ (eq-eqb n 1 q))
 
   other : (n ≡ 1 → ⊥) → NoByte NoStatus ≡ statusOf w
   unfolding statusOf
-  other q = sym (ap (λ (r : ReadHex). statusRead r (hexBytes w)) e ∙ at-false _ _ _ (ne-eqb n 1 q))
+  other q = sym (ap (λ (r : ReadHex). byteRead r (hexBytes w)) e ∙ at-false _ _ _ (ne-eqb n 1 q))
 
 pub given-status-spec : {M : Type 1} → statement M
 unfolding statusOf

@@ -59,7 +59,7 @@ use Rattle.port.proofs.types.Small.Laws as L′
 use Rattle.port.proofs.types.Split.Laws as D′
 use Rattle.port.proofs.types.Remote.Laws as R′
 use Rattle.rules.proofs.verdict.Verdict.Laws as V′
-use Rattle.unit_walks.proofs.Borrow.{Arr, St, vals, svals, stateOf, left, Open, Opened, Closed, borrow-opens, closed, called}
+use Rattle.unit_walks.proofs.Borrow.{Arr, St, vals, svals, stateOf, unitWith, Open, Opened, Closed, borrow-opens, closed, called}
 use Rattle.unit_inplace.proofs.AtExit.{sentOf, polled}
 use Rattle.unit.proofs.types.Unit as T
 use Rattle.unit.proofs.types.Unit.Laws as T′
@@ -146,10 +146,10 @@ module _ {M : Type 1} (𝓤 : URA M) (H : Heap 𝓤) (A : Atoms 𝓤) (W : Given
   Says r zs = Hands (choose (is-sound (stateOf h)) (poll (stateOf h) (unsentIn (h .small .bulkin) (h .reply)) (length (now s))) (refuse (stateOf h) 1)) r (now s) zs
 
   exits : (r : Gave) (zs : List ℕ) → Says r zs → length zs ≡ length (now s) → Is N.the-row (sentOf r) (res r ∷ [])
-      → ent 𝓤 (⋆ 𝓤 H A (Closed 𝓤 κ q γ b o (left h (r .state)) Token (‵ (finally u8 (name s) zs)))) (Post (res r))
+      → ent 𝓤 (⋆ 𝓤 H A (Closed 𝓤 κ q γ b o (unitWith h (r .state)) Token (‵ (finally u8 (name s) zs)))) (Post (res r))
   exits r zs e l is =
-      qed W (Closed 𝓤 κ q γ b o (left h (r .state)) Token (‵ (finally u8 (name s) zs))) ∵
-      suffices ! _ (ends-at 𝓤 H A f.ended stayed (f.clauses 𝓤 H A at-mem run) W (((κ, (κ′, tt)), (q, (q′, tt)), tt, x, at), tt) (res r) (sentOf r) (left h (r .state), (zs, tt)) (tt, (l, tt))) $
+      qed W (Closed 𝓤 κ q γ b o (unitWith h (r .state)) Token (‵ (finally u8 (name s) zs))) ∵
+      suffices ! _ (ends-at 𝓤 H A f.ended stayed (f.clauses 𝓤 H A at-mem run) W (((κ, (κ′, tt)), (q, (q′, tt)), tt, x, at), tt) (res r) (sentOf r) (unitWith h (r .state), (zs, tt)) (tt, (l, tt))) $
       says ! (polled h (now s) zs r e) $ move ! (2 ∷ 3 ∷ []) $ join ! $ frame ! $
       feqI ! (List Val) (vptr b o ∷ []) (vptr b o ∷ []) refl $ fjoin3 ! $ nothing ! $ move ! (2 ∷ 0 ∷ []) $ fjoin ! $ move ! (1 ∷ 0 ∷ []) $ fjoin ! $ frame ! $
       owned ! N.the-row (Is N.the-row) (LL.makes N.the-type N′.the-plain 𝓤 H A) (sentOf r) _ is $ done !
