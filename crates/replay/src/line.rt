@@ -27,7 +27,8 @@ ghost use Rattle.replay.specs.Played.{Puts};
 
 // A call with the first two words behind its name.
 fn called(unit: Unit, name: Name, first: &[u8], second: &[u8], out: &mut [u8], at: usize) -> Played
-    ensures { λ r. ⌜ Puts (carriedOut (deviceOf unit) (row name .asks (now (first .entry)) (now (second .entry)))) (now (out .entry), at) (now (out .exit)) r ⌝ }
+    ensures { λ r. ⌜ Puts (carriedOut (deviceOf unit) (row name .asks (now (first .entry)) (now (second .entry))))
+        (now (out .entry), at) (now (out .exit)) r ⌝ }
 {
     match name {
         Name::Power => power(unit, first, out, at),
