@@ -1,6 +1,6 @@
 -- What a Bulk-OUT packet comes to, a law for each way that the code takes: each turns the tests that led there into the definition's outcome.
 -- Assumes nothing.
-use Prim.Native.Nat.{ℕ, _+_, _-_, _%_, _≤_, _<_, min}
+use Prim.Native.Nat.{ℕ, _+_, _-_, _≤_, _<_, min}
 use mathlib.Core.Path.{_≡_, refl, ap, _∙_}
 use mathlib.Core.Bool.{false}
 use mathlib.Core.List.{List}
@@ -8,7 +8,7 @@ use lib.ListN.{length}
 use borrow.Author.Tests.{eq-eqb, ne-eqb, lt-ltb, le-ltb}
 use Rattle.rules.specs.Choice.{first}
 use Rattle.rules.proofs.Choice.{eq-neb, ne-neb, pick-true, pick-false, refuses, passes}
-use Rattle.wire.specs.Header.{HEADER, readHeader}
+use Rattle.wire.specs.Header.{HEADER, notInFours, readHeader}
 use Rattle.wire.specs.declared.types.Header.{Header}
 use Rattle.wire.specs.declared.types.Read.the-variants.{Good}
 use Rattle.port.specs.Parts.{STORE, packetSize, outOf, inOf}
@@ -19,14 +19,14 @@ use Rattle.port.specs.declared.types.Outcome.the-variants.{Keep, Halt, Data, Ac
 
 -- ** a continuing packet
 
-module _ (p left : ℕ) (s : List ℕ) (number : ℕ) (fours : length s % 4 ≡ 0) (fit : number ≡ first (fitRules p s 0 left) 0) where
+module _ (p left : ℕ) (s : List ℕ) (number : ℕ) (fours : notInFours s ≡ false) (fit : number ≡ first (fitRules p s 0 left) 0) where
   pub more-halts : (number ≡ 0 → ⊥) → Halt number ≡ more p left s
   unfolding more
-  more-halts e = pick-false _ _ _ _ (eq-neb _ 0 fours) (refuses Halt (fitRules p s 0 left) _ number tt fit e)
+  more-halts e = pick-false _ _ _ _ fours (refuses Halt (fitRules p s 0 left) _ number tt fit e)
 
   pub more-data : number ≡ 0 → (count : ℕ) → count ≡ min left (length s) → Data count ≡ more p left s
   unfolding more
-  more-data e count k = ap Data k ∙ pick-false _ _ _ _ (eq-neb _ 0 fours) (passes Halt (fitRules p s 0 left) _ number tt fit e)
+  more-data e count k = ap Data k ∙ pick-false _ _ _ _ fours (passes Halt (fitRules p s 0 left) _ number tt fit e)
 
 -- ** a header
 

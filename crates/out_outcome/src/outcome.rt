@@ -17,8 +17,8 @@ use rules::WRONG_LENGTH;
 use rules::WRONG_SIZE;
 use wire::types::Header;
 use wire::types::Read;
-use wire_code::header::FOUR;
 use wire_code::header::HEADER;
+use wire_code::header::not_in_fours;
 use wire_code::header::read_header;
 use wire_code::numbers::all_zero;
 use wire_code::numbers::least;
@@ -70,8 +70,7 @@ fn fit(p: usize, s: &[u8], from: usize, left: usize) -> u8
 fn more(p: usize, left: u16, s: &[u8]) -> Outcome
     ensures { λ r. ⌜ r ≡ more p left (now (s .entry)) ⌝ }
 {
-    let n = s.len();
-    if n % FOUR != 0 {
+    if not_in_fours(s) {
         return Outcome::Halt {
             number: NOT_IN_FOURS,
         };
@@ -82,7 +81,7 @@ fn more(p: usize, left: u16, s: &[u8]) -> Outcome
         return Outcome::Halt { number };
     }
     Outcome::Data {
-        count: least(due, n),
+        count: least(due, s.len()),
     }
 }
 

@@ -10,7 +10,7 @@ use state_parts::parts::closed_out;
 use state_parts::parts::holding;
 ghost use mathlib.Core.Path.{_≡_};
 ghost use Prim.Native.Nat.{ℕ, _≤_, min};
-ghost use Rattle.port.specs.Parts.{holding};
+ghost use Rattle.port.specs.Parts.{STORE, holding};
 ghost use Rattle.port.specs.Out.{absorbed, opened, tagged, requested, CanAbsorb};
 
 // `count` data bytes of the open transfer are here: the last of them completes it.
@@ -56,7 +56,7 @@ pub fn opened(o: BulkOut, tag: u8, size: u16, end: u8) -> BulkOut
 
 // What is asked for, as much of it as a store can hold.
 fn asked(size: u32) -> u16
-    ensures { λ r. ⌜ r ≡ min size 1024 ⌝ }
+    ensures { λ r. ⌜ r ≡ min size STORE ⌝ }
 {
     if size < MOST {
         return size as u16;

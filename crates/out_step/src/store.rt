@@ -16,11 +16,12 @@ ghost use lib.ListN.{length, drop};
 ghost use lib.Seq.{paste};
 ghost use Rattle.rules.specs.Choice.{pick};
 ghost use Rattle.rules.specs.Answers.{only};
+ghost use Rattle.port.specs.Parts.{STORE};
 ghost use Rattle.port.specs.Sound.{sound};
 ghost use Rattle.port.specs.Out.{plain, outPlan};
 
 fn packet_into(store: &mut [u8], st: State, s: &[u8]) -> Plan
-    requires { ⌜ (1024 ≤ length (now store)) × (sound st ≡ true) ⌝ }
+    requires { ⌜ (STORE ≤ length (now store)) × (sound st ≡ true) ⌝ }
     ensures { λ r. ⌜ (r ≡ outPlan st (now (s .entry))) × (now (store .exit) ≡ paste (now (store .entry)) (st .small .bulkout .message .held)
         (drop (r .from) (now (s .entry))) (r .count)) ⌝ }
 {

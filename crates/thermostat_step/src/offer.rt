@@ -24,7 +24,7 @@ ghost use Rattle.rules.specs.Choice.{pick, first, _=ᵇ_, _<ᵇ_, _or_};
 ghost use Rattle.rules.specs.Answers.{only};
 ghost use Rattle.port.specs.Sound.{sound};
 ghost use Rattle.port.specs.Out.{plain};
-ghost use Rattle.port.specs.Parts.{hasReply, isClear};
+ghost use Rattle.port.specs.Parts.{STORE, hasReply, isClear};
 ghost use Rattle.port.specs.Calls.{offerRules, offered, offerPlan};
 
 // A store's bytes, as a length.
@@ -32,7 +32,7 @@ const ROOM: usize = STORE as usize;
 
 // No reply has `n` bytes.
 fn no_length(n: usize) -> bool
-    ensures { λ r. ⌜ r ≡ (n =ᵇ 0 or 1024 <ᵇ n) ⌝ }
+    ensures { λ r. ⌜ r ≡ (n =ᵇ 0 or STORE <ᵇ n) ⌝ }
 {
     if n == 0 {
         return true;
@@ -96,7 +96,7 @@ pub fn offered(b: BulkIn, n: u16) -> BulkIn
 
 // What an offer of `n` bytes leaves; a plan that stores bytes stores as many as were offered, and they have room.
 fn offer_plan(st: State, n: usize) -> Plan
-    ensures { λ r. ⌜ (r ≡ offerPlan st n) × (r .from + r .count ≤ n) × (r .count ≤ 1024) ⌝ }
+    ensures { λ r. ⌜ (r ≡ offerPlan st n) × (r .from + r .count ≤ n) × (r .count ≤ STORE) ⌝ }
 {
     let number = offer_gate(st, n);
     if number != 0 {
@@ -118,7 +118,7 @@ fn offer_plan(st: State, n: usize) -> Plan
 
 // The bytes go to the front of a store that begins with the reply.
 fn offer_into(store: &mut [u8], st: State, bytes: &[u8]) -> Plan
-    requires { ⌜ 1024 ≤ length (now store) ⌝ }
+    requires { ⌜ STORE ≤ length (now store) ⌝ }
     ensures { λ r. ⌜ (r ≡ offerPlan st (length (now (bytes .entry))))
         × (now (store .exit) ≡ paste (now (store .entry)) 0 (drop (r .from) (now (bytes .entry))) (r .count)) ⌝ }
 {

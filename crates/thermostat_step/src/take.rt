@@ -21,6 +21,7 @@ ghost use Prim.Native.Nat.{ℕ, _≤_};
 ghost use lib.ListN.{length};
 ghost use Rattle.rules.specs.Choice.{pick, first};
 ghost use Rattle.rules.specs.Answers.{UNSOUND};
+ghost use Rattle.port.specs.Parts.{STORE};
 ghost use Rattle.port.specs.Sound.{sound};
 ghost use Rattle.port.specs.Answer.{refuse};
 ghost use Rattle.port.specs.Device.{heldIn};
@@ -54,7 +55,7 @@ pub fn released(o: BulkOut) -> BulkOut
 
 // From a store that begins with the message.
 fn take_from(message: &[u8], st: State, b: &mut [u8]) -> Given
-    requires { ⌜ (1024 ≤ length (now message)) × (sound st ≡ true) ⌝ }
+    requires { ⌜ (STORE ≤ length (now message)) × (sound st ≡ true) ⌝ }
     ensures { λ r. ⌜ Hands (taking st (heldIn (st .small .bulkout) (now (message .entry))) (length (now (b .entry)))) r (now (b .entry)) (now (b .exit)) ⌝ }
 {
     let number = take_gate(st, b.len());

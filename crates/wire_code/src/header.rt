@@ -13,13 +13,13 @@ ghost use mathlib.Core.Path.{_≡_};
 ghost use Prim.Native.Nat.{ℕ, _≤_};
 ghost use lib.ListN.{length};
 ghost use Rattle.wire.specs.Bytes.{into};
-ghost use Rattle.wire.specs.Header.{HEADER, readMessage, readRequest, readTrigger, readHeader, inHeader};
+ghost use Rattle.wire.specs.Header.{HEADER, notInFours, readMessage, readRequest, readTrigger, readHeader, inHeader};
 
 // Bytes of a header.
 pub const HEADER: usize = 12;
 
 // A packet has a multiple of so many bytes.
-pub const FOUR: usize = 4;
+const FOUR: usize = 4;
 
 // The kinds of header.
 const DEV_DEP_MSG_OUT: u8 = 1;
@@ -111,17 +111,23 @@ fn read_trigger(s: &[u8]) -> Read
     Read::Fault { number: RESERVED }
 }
 
+// A packet whose length is no multiple of four, be it a header's or one that goes on with a transfer.
+pub fn not_in_fours(s: &[u8]) -> bool
+    ensures { λ r. ⌜ r ≡ notInFours (now (s .entry)) ⌝ }
+{
+    s.len() % FOUR != 0
+}
+
 // The header at the start of a packet.
 pub fn read_header(s: &[u8]) -> Read
     ensures { λ r. ⌜ r ≡ readHeader (now (s .entry)) ⌝ }
 {
-    let n = s.len();
-    if n % FOUR != 0 {
+    if not_in_fours(s) {
         return Read::Fault {
             number: NOT_IN_FOURS,
         };
     }
-    if n < HEADER {
+    if s.len() < HEADER {
         return Read::Fault {
             number: SHORT_HEADER,
         };

@@ -10,6 +10,6 @@ unfolding readHeader
 read-header-spec =
     tie.close
     (tie.spec
-    (λ c. search picks depth 14) (λ c. search picks depth 14) (λ c. search needs) (λ c. search picks depth 14) (λ c. search needs)
+    (λ c κs. search needs) (λ c. search picks depth 14) (λ c. search picks depth 14) (λ c. search needs) (λ c. search picks depth 14) (λ c. search needs)
     (λ c. omega (arith, c .shared-slice-known3 .given 1)) (λ c. search picks depth 14) (λ c. search needs) (λ c κs. search needs) (λ c κs. search needs)
     (λ c κs. search needs) (λ c. search picks depth 14) (λ c. search picks depth 14) (λ c. search picks depth 14) (λ c. search picks depth 14))
