@@ -104,7 +104,7 @@ pub fn ended(feed: Feed, line: &[u8], out: &mut [u8]) -> Feed
 }
 
 fn ended_with_room(feed: Feed, line: &[u8], out: &mut [u8]) -> Feed
-    ensures { λ r. ⌜ Passes feed (now (line .entry)) r ⌝ }
+    ensures { λ r. ⌜ Passes feed (now (line .entry)) (now (out .entry)) (now (out .exit)) r ⌝ }
 {
     if is_nearly_full(out, feed.filled) {
         let after = written(feed, out);
@@ -115,7 +115,7 @@ fn ended_with_room(feed: Feed, line: &[u8], out: &mut [u8]) -> Feed
 
 // Plays each whole line of what was read.
 pub fn whole_lines(feed: Feed, text: &[u8], out: &mut [u8]) -> Feed
-    ensures { λ r. ⌜ Plays feed (now (text .entry)) r ⌝ }
+    ensures { λ r. ⌜ Plays feed (now (text .entry)) (now (out .entry)) (now (out .exit)) r ⌝ }
 {
     let mut after = feed;
     let mut from: usize = 0;

@@ -16,9 +16,8 @@ use libc::STDIN_FILENO;
 use rest::hold;
 use text_words::words::first_part;
 ghost use mathlib.Core.Path.{_≡_};
-ghost use mathlib.Core.Bool.{false};
 ghost use Prim.Native.Nat.{_+_, min};
-ghost use Rattle.replay.specs.Feed.{Passes, Plays};
+ghost use Rattle.replay.specs.Feed.{PlaysOut, EndsOut};
 
 // The place behind n more bytes, and none past `most`.
 fn behind(at: usize, n: usize, most: usize) -> usize
@@ -44,7 +43,7 @@ fn filled(input: &mut [u8], held: usize) -> usize {
 
 // The input is at its end: a last line without a newline counts.
 fn last_turn(feed: Feed, input: &[u8], output: &mut [u8]) -> Feed
-    ensures { λ r. ⌜ (Passes feed (now (input .entry)) r) × (r .going ≡ false) ⌝ }
+    ensures { λ r. ⌜ EndsOut feed (now (input .entry)) (now (output .entry)) (now (output .exit)) r ⌝ }
 {
     let after = ended(feed, input, output);
     let mut last = written(after, output);
@@ -54,7 +53,7 @@ fn last_turn(feed: Feed, input: &[u8], output: &mut [u8]) -> Feed
 
 // The lines in what was read are played, and their answers written.
 fn some_lines(feed: Feed, input: &[u8], output: &mut [u8]) -> Feed
-    ensures { λ r. ⌜ Plays feed (now (input .entry)) r ⌝ }
+    ensures { λ r. ⌜ PlaysOut feed (now (input .entry)) (now (output .entry)) (now (output .exit)) r ⌝ }
 {
     let after = whole_lines(feed, input, output);
     written(after, output)

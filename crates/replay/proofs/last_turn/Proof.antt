@@ -1,7 +1,7 @@
 -- `replay::last_turn` meets its contract.
 use mathlib.Core.Path.{refl}
 use borrow.Author.Needs.{needs}
-use Rattle.replay.proofs.Feeding.{passes, passes-before}
+use Rattle.replay.proofs.Feeding.{ends-out}
 use Rattle.replay.proofs.last_turn.Statement.{statement}
 use Rattle.replay.proofs.last_turn.Tie as tie
 
@@ -10,6 +10,4 @@ last-turn-spec =
     tie.close
     (tie.spec
     (λ c κs. search needs) (λ c κs. search needs) (λ c. search needs)
-    (λ c.
-    let p = passes-before (c .written .ensures) (passes (c .before .before .before .before .ended .ensures)) in
-    (record { unit = p .unit; skipping = p .skipping; held = p .held }, refl)))
+    (λ c. record { stands = ends-out (c .written .ensures) (c .before .before .before .before .ended .ensures); stops = refl }))

@@ -1,6 +1,6 @@
 -- `replay::some_lines` meets its contract.
 use borrow.Author.Needs.{needs}
-use Rattle.replay.proofs.Feeding.{plays-before}
+use Rattle.replay.proofs.Feeding.{plays-out}
 use Rattle.replay.proofs.some_lines.Statement.{statement}
 use Rattle.replay.proofs.some_lines.Tie as tie
 
@@ -9,4 +9,4 @@ some-lines-spec =
     tie.close
     (tie.spec
     (λ c κs. search needs) (λ c κs. search needs) (λ c. search needs)
-    (λ c. plays-before (c .written .ensures) (c .before .before .before .before .whole-lines .ensures)))
+    (λ c. plays-out (c .written .ensures) (c .before .before .before .before .whole-lines .ensures)))
