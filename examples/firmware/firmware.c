@@ -1,24 +1,37 @@
 #include "firmware.h"
 
+#include "ahead.h"
+#include "asks.h"
 #include "port.h"
 #include "thermostat.h"
+
+#include <string.h>
 
 static struct {
     int32_t setpoint; /* in thousandths of a degree */
     bool at_setpoint; /* the room is */
     bool refused;     /* the last message was */
     bool asks;        /* for service, and the port does not know yet */
+    bool echoes;
 
     enum request question; /* being worked on, or NOTHING_ASKED */
+    uint32_t asked_at;     /* on the clock */
     uint32_t generation;   /* of the message that is being worked on, or answered */
     uint8_t answer[TMC_STORE];
     size_t answer_length; /* 0: there is none in hand */
 } loop;
 
-void firmware_start(void)
+void firmware_start(enum controller_kind kind, size_t packet)
 {
+    memset(&loop, 0, sizeof loop);
     loop.setpoint = 20000;
+    controller_start(kind, packet, kind == CONTROLLER_ASKS ? asks_interrupt : ahead_interrupt);
     port_start();
+}
+
+void firmware_echoes(void)
+{
+    loop.echoes = true;
 }
 
 static void put_answer_away(void)
@@ -38,13 +51,21 @@ static void do_message(const uint8_t *message, size_t length)
     loop.refused = request == REFUSED;
     if (request == SET_SETPOINT) {
         loop.setpoint = degrees;
+        firmware_heats(degrees);
         firmware_says("sets the setpoint to %ld thousandths of a degree", (long)degrees);
     } else if (request == REFUSED) {
         loop.asks = true;
         firmware_says("refuses it");
     } else {
         loop.question = request;
+        loop.asked_at = firmware_milliseconds();
     }
+}
+
+static void echo_message(const uint8_t *message, size_t length)
+{
+    memcpy(loop.answer, message, length);
+    loop.answer_length = length;
 }
 
 /* Always before anything is offered. A message that stays in the port holds the host's next request back (5, NAK): a loop that first
@@ -56,16 +77,24 @@ static bool take_message(void)
 
     if (length == 0)
         return false;
-    firmware_says("takes \"%.*s\"", (int)(message[length - 1] == '\n' ? length - 1 : length), (const char *)message);
+    firmware_says("takes \"%.*s\"", (int)thermostat_text(message, length), (const char *)message);
     put_answer_away();
-    do_message(message, length);
+    if (loop.echoes)
+        echo_message(message, length);
+    else
+        do_message(message, length);
     return true;
 }
 
-/* Takes a turn of the loop for itself, in which the host can do anything. */
+static bool is_worked_out(void)
+{
+    return loop.question != NOTHING_ASKED && firmware_milliseconds() - loop.asked_at >= thermostat_takes(loop.question);
+}
+
+/* Takes a turn of the loop for itself, or many, in which the host can do anything. */
 static void work(void)
 {
-    loop.answer_length = thermostat_answers(loop.question, loop.setpoint, loop.answer, sizeof loop.answer);
+    loop.answer_length = thermostat_answers(loop.question, loop.setpoint, firmware_measures(), loop.answer, sizeof loop.answer);
     loop.question = NOTHING_ASKED;
     firmware_says("has worked out an answer of %zu bytes", loop.answer_length);
 }
@@ -121,7 +150,7 @@ static void do_what_was_told(void)
 void firmware_turn(void)
 {
     if (!take_message()) {
-        if (loop.question != NOTHING_ASKED)
+        if (is_worked_out())
             work();
         if (loop.answer_length != 0)
             offer_answer();

@@ -2,6 +2,7 @@
 
 #include "controller.h"
 #include "firmware.h"
+#include "trace.h"
 
 #include <stdarg.h>
 #include <stdio.h>
@@ -32,6 +33,17 @@ void firmware_says(const char *format, ...)
     vprintf(format, words);
     va_end(words);
     printf("\n");
+}
+
+/* The scenes are told from the host's side. */
+void firmware_traces(const struct trace *trace)
+{
+    (void)trace;
+}
+
+void firmware_serves(const uint8_t setup[8], bool is_served, const uint8_t *bytes, size_t length)
+{
+    (void)setup, (void)is_served, (void)bytes, (void)length;
 }
 
 bool host_heard_thermostat(void)
@@ -168,18 +180,17 @@ void host_sends(uint8_t tag, uint8_t end, const char *text)
     uint8_t bytes[256];
     size_t length = put_transfer(bytes, sizeof bytes, tag, end, text);
     enum handshake handshake = HANDSHAKE_ACK;
+    size_t size = controller_packet_size();
     size_t at;
 
-    for (at = 0; at < length && handshake == HANDSHAKE_ACK; at += CONTROLLER_PACKET) {
-        size_t rest = length - at;
-        handshake = wire_event(EVENT_BULK_OUT, bytes + at, rest < CONTROLLER_PACKET ? rest : CONTROLLER_PACKET).handshake;
-    }
+    for (at = 0; at < length && handshake == HANDSHAKE_ACK; at += size)
+        handshake = wire_event(EVENT_BULK_OUT, bytes + at, length - at < size ? length - at : size).handshake;
     print_sent(end ? "" : ", no EOM", tag, text, handshake);
 }
 
 void host_sends_while_masked(uint8_t tag, const char *text)
 {
-    uint8_t bytes[CONTROLLER_PACKET];
+    uint8_t bytes[CONTROLLER_LARGEST];
     size_t length = put_transfer(bytes, sizeof bytes, tag, 1, text);
 
     wire_arrives_while_masked(bytes, length);
@@ -192,12 +203,29 @@ void host_sends_while_masked(uint8_t tag, const char *text)
 void host_sees_answer(void)
 {
     line_begins("host");
-    printf("sees it answered: %s\n", words_of(wire_arrived().handshake));
+    printf("sees it answered: %s\n", words_of(wire_arrived(0)));
+}
+
+void host_sends_and_asks_while_masked(uint8_t tag, const char *text, uint32_t size)
+{
+    uint8_t packet[HEADER];
+
+    host_sends_while_masked(tag, text);
+    put_header(packet, 2, (uint8_t)(tag + 1), size, 0);
+    wire_arrives_while_masked(packet, HEADER);
+    line_begins("host");
+    printf("asks for up to %lu bytes (tag %u), at the same moment\n", (unsigned long)size, tag + 1u);
+}
+
+void host_sees_answers(void)
+{
+    line_begins("host");
+    printf("sees them answered: %s, %s\n", words_of(wire_arrived(0)), words_of(wire_arrived(1)));
 }
 
 void host_sends_damaged(uint8_t tag, const char *text)
 {
-    uint8_t bytes[CONTROLLER_PACKET];
+    uint8_t bytes[CONTROLLER_LARGEST];
     size_t length = put_transfer(bytes, sizeof bytes, tag, 1, text);
 
     bytes[2] = 0xFF;
@@ -249,7 +277,7 @@ static bool poll(void)
     }
     memcpy(reading.bytes + reading.length, answer.bytes, answer.length);
     reading.length += answer.length;
-    if (answer.length == CONTROLLER_PACKET) {
+    if (answer.length == controller_packet_size()) {
         printf("polls: ACK, a full packet\n");
         return true;
     }

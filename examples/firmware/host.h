@@ -20,9 +20,11 @@ void host_suspends(void);
 /* A message, or a part of one where `end` (EOM) is 0, in as many packets as it takes. */
 void host_sends(uint8_t tag, uint8_t end, const char *text);
 
-/* The same in one packet, which comes while the firmware has the interrupt masked; and how it was answered. */
+/* The same in one packet, which comes while the firmware has the interrupt masked, and with a request behind it; and how they were answered. */
 void host_sends_while_masked(uint8_t tag, const char *text);
+void host_sends_and_asks_while_masked(uint8_t tag, const char *text, uint32_t size);
 void host_sees_answer(void);
+void host_sees_answers(void);
 
 /* The same with a tag and an inverse that do not fit. */
 void host_sends_damaged(uint8_t tag, const char *text);

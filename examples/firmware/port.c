@@ -16,8 +16,7 @@
    byte that is set without it takes the request back. So the main loop sets the other bits, and bit 6 stays as it is held. */
 #include "port.h"
 
-#include "controller.h"
-#include "standard.h"
+#include "trace.h"
 
 #define ASKS_SERVICE 0x40u /* bit 6 of the status byte */
 
@@ -28,12 +27,30 @@ static struct {
     bool pulsed;
 } port;
 
-/* The interrupt routine. */
+static bool begins; /* a bulk transfer, with the packet of this call */
+
+static struct tmc_answer traced(enum traced call, const uint8_t *given, size_t given_length, struct tmc_answer answer, const uint8_t *bytes)
+{
+    const struct trace trace = {call, given, given_length, answer, bytes, begins};
+
+    firmware_traces(&trace);
+    return answer;
+}
+
+/* The interrupt routine's calls. */
+
+static void power_on(void)
+{
+    const uint16_t size = (uint16_t)controller_packet_size();
+    const uint8_t given[2] = {(uint8_t)size, (uint8_t)(size >> 8)};
+
+    traced(TRACED_POWER_ON, given, sizeof given, tmc_power_on(&port.unit, size), NULL);
+}
 
 /* A unit that is none any more: something wrote over it. It starts from nothing, and so must the host. */
 static void start_over(void)
 {
-    tmc_power_on(&port.unit, CONTROLLER_PACKET);
+    power_on();
     port.generation++;
     controller_reattach();
 }
@@ -85,108 +102,104 @@ static bool drops_reply(const uint8_t *packet, const uint8_t *answered, bool was
     }
 }
 
-static void on_setup(void)
+bool port_setup(const uint8_t packet[8], enum handshake *handshake, uint8_t *bytes, size_t *length)
 {
-    uint8_t bytes[TMC_CONTROL_BUFFER];
-    size_t length;
-    const uint8_t *packet = controller_packet(&length);
     bool was_reading = is_reading();
-    struct tmc_answer answer = tmc_setup(&port.unit, packet, length, bytes, sizeof bytes);
+    struct tmc_answer answer = traced(TRACED_SETUP, packet, 8, tmc_setup(&port.unit, packet, 8, bytes, TMC_CONTROL_BUFFER), bytes);
 
-    switch (answer.number) {
-    case TMC_NUMBER_DONE:
-        if (drops_reply(packet, bytes, was_reading))
-            port.generation++;
-        note_what_it_tells(answer);
-        controller_answer(HANDSHAKE_ACK, bytes, answer.length);
-        break;
-    case TMC_NUMBER_NO_ROW: /* not the port's: the device's own requests, and what nobody knows */
-        standard_request(packet);
-        break;
-    case TMC_NUMBER_UNSOUND:
-        start_over();
-        controller_answer(HANDSHAKE_STALL, NULL, 0);
-        break;
-    default:
-        controller_answer(HANDSHAKE_STALL, NULL, 0);
-        break;
-    }
-}
-
-static void on_bulk_out(void)
-{
-    size_t length;
-    const uint8_t *packet = controller_packet(&length);
-    struct tmc_answer answer = tmc_bulk_out(&port.unit, packet, length);
-
+    *handshake = answer.number == TMC_NUMBER_DONE ? HANDSHAKE_ACK : HANDSHAKE_STALL;
+    *length = answer.length;
+    if (answer.number == TMC_NUMBER_DONE && drops_reply(packet, bytes, was_reading))
+        port.generation++;
     if (answer.number == TMC_NUMBER_UNSOUND)
         start_over();
     note_what_it_tells(answer);
-    controller_answer(handshake_of(answer), NULL, 0);
+    return answer.number != TMC_NUMBER_NO_ROW;
 }
 
-static void on_bulk_in(void)
+/* What the three packet calls have in common. */
+static enum handshake answered(struct tmc_answer answer, size_t *length)
 {
-    uint8_t bytes[CONTROLLER_PACKET];
-    struct tmc_answer answer = tmc_bulk_in(&port.unit, bytes, sizeof bytes);
-
     if (answer.number == TMC_NUMBER_UNSOUND)
         start_over();
-    controller_answer(handshake_of(answer), bytes, answer.length);
+    note_what_it_tells(answer);
+    *length = answer.length;
+    return handshake_of(answer);
 }
 
-static void on_interrupt_in(void)
+enum handshake port_bulk_out(const uint8_t *packet, size_t length)
 {
-    uint8_t bytes[TMC_INTERRUPT_BUFFER];
-    struct tmc_answer answer = tmc_interrupt_in(&port.unit, bytes, sizeof bytes);
+    size_t none;
 
-    if (answer.number == TMC_NUMBER_UNSOUND)
-        start_over();
-    controller_answer(handshake_of(answer), bytes, answer.length);
+    begins = port.unit.out_left == 0;
+    return answered(traced(TRACED_BULK_OUT, packet, length, tmc_bulk_out(&port.unit, packet, length), NULL), &none);
 }
 
-static void on_reset(void)
+enum handshake port_bulk_in(uint8_t *bytes, size_t *length)
 {
-    if (tmc_bus_reset(&port.unit).number == TMC_NUMBER_UNSOUND)
-        tmc_power_on(&port.unit, CONTROLLER_PACKET);
+    begins = port.unit.in_phase == TMC_PHASE_ASKED;
+    return answered(traced(TRACED_BULK_IN, NULL, 0, tmc_bulk_in(&port.unit, bytes, controller_packet_size()), bytes), length);
+}
+
+enum handshake port_interrupt_in(uint8_t *bytes, size_t *length)
+{
+    return answered(traced(TRACED_INTERRUPT_IN, NULL, 0, tmc_interrupt_in(&port.unit, bytes, TMC_INTERRUPT_BUFFER), bytes), length);
+}
+
+void port_reset(void)
+{
+    if (traced(TRACED_BUS_RESET, NULL, 0, tmc_bus_reset(&port.unit), NULL).number == TMC_NUMBER_UNSOUND)
+        power_on();
     port.generation++;
 }
 
-static void on_suspend(void)
+void port_suspend(void)
 {
-    if (tmc_suspend(&port.unit).number == TMC_NUMBER_UNSOUND)
+    if (traced(TRACED_SUSPEND, NULL, 0, tmc_suspend(&port.unit), NULL).number == TMC_NUMBER_UNSOUND)
         start_over();
 }
 
-void controller_interrupt(enum controller_event event)
+/* A copy of the unit is polled in its place. */
+enum handshake port_next(enum endpoint endpoint, uint8_t *bytes, size_t *length)
 {
-    switch (event) {
-    case EVENT_SETUP:
-        on_setup();
-        break;
-    case EVENT_BULK_OUT:
-        on_bulk_out();
-        break;
-    case EVENT_BULK_IN:
-        on_bulk_in();
-        break;
-    case EVENT_INTERRUPT_IN:
-        on_interrupt_in();
-        break;
-    case EVENT_RESET:
-        on_reset();
-        break;
-    case EVENT_SUSPEND:
-        on_suspend();
-        break;
-    }
+    static struct tmc_unit copy;
+    struct tmc_answer answer;
+
+    copy = port.unit;
+    answer = endpoint == BULK_IN ? tmc_bulk_in(&copy, bytes, controller_packet_size()) : tmc_interrupt_in(&copy, bytes, TMC_INTERRUPT_BUFFER);
+    *length = answer.length;
+    return handshake_of(answer);
+}
+
+bool port_is_stalled(enum endpoint endpoint)
+{
+    const bool halted[ENDPOINTS] = {port.unit.out_halted, port.unit.in_halted, port.unit.interrupt_halted};
+
+    return !port.unit.configured || halted[endpoint];
+}
+
+bool port_message_waits(void)
+{
+    return port.unit.out_ready;
+}
+
+bool port_is_configured(void)
+{
+    return port.unit.configured;
 }
 
 /* The main loop's calls. */
 
 void port_start(void)
 {
-    tmc_power_on(&port.unit, CONTROLLER_PACKET);
+    power_on();
+}
+
+/* After a call that may have changed what the controller is to do. */
+static void unmask_and_tell(void)
+{
+    controller_pend();
+    controller_unmask();
 }
 
 size_t port_take(uint8_t *message, size_t room, uint32_t *generation)
@@ -194,10 +207,10 @@ size_t port_take(uint8_t *message, size_t room, uint32_t *generation)
     struct tmc_answer answer;
 
     controller_mask();
-    answer = tmc_take(&port.unit, message, room);
+    answer = traced(TRACED_TAKE, NULL, 0, tmc_take(&port.unit, message, room), message);
     if (answer.number == TMC_NUMBER_DONE)
         *generation = port.generation;
-    controller_unmask();
+    unmask_and_tell();
     return answer.number == TMC_NUMBER_DONE ? answer.length : 0;
 }
 
@@ -208,7 +221,9 @@ static enum port_offer offer(uint32_t generation, const uint8_t *reply, size_t l
         return PORT_STALE;
     if (port.unit.in_phase != TMC_PHASE_ASKED)
         return PORT_NOT_YET;
-    return tmc_offer(&port.unit, reply, length).number == TMC_NUMBER_DONE ? PORT_OFFERED : PORT_NOT_YET;
+    if (traced(TRACED_OFFER, reply, length, tmc_offer(&port.unit, reply, length), NULL).number != TMC_NUMBER_DONE)
+        return PORT_NOT_YET;
+    return PORT_OFFERED;
 }
 
 enum port_offer port_offer(uint32_t generation, const uint8_t *reply, size_t length)
@@ -217,26 +232,26 @@ enum port_offer port_offer(uint32_t generation, const uint8_t *reply, size_t len
 
     controller_mask();
     offered = offer(generation, reply, length);
-    controller_unmask();
+    unmask_and_tell();
     return offered;
 }
 
 bool port_set_status(uint8_t bits, bool asks)
 {
     struct tmc_answer answer;
-    unsigned bit6;
+    uint8_t status;
 
     controller_mask();
-    bit6 = asks ? ASKS_SERVICE : port.unit.status & ASKS_SERVICE;
-    answer = tmc_set_status(&port.unit, (uint8_t)((bits & ~ASKS_SERVICE) | bit6));
-    controller_unmask();
+    status = (uint8_t)((bits & ~ASKS_SERVICE) | (asks ? ASKS_SERVICE : port.unit.status & ASKS_SERVICE));
+    answer = traced(TRACED_SET_STATUS, &status, 1, tmc_set_status(&port.unit, status), NULL);
+    unmask_and_tell();
     return answer.number == TMC_NUMBER_DONE;
 }
 
 void port_panel(void)
 {
     controller_mask();
-    tmc_panel(&port.unit);
+    traced(TRACED_PANEL, NULL, 0, tmc_panel(&port.unit), NULL);
     controller_unmask();
 }
 

@@ -2,11 +2,30 @@
 #ifndef PORT_H
 #define PORT_H
 
+#include "controller.h"
 #include "tewennos.h"
 
-#include <stdbool.h>
-
+/* Powers the unit on, with the controller's packet size. */
 void port_start(void);
+
+/* The interrupt routine's calls: how the host is answered, and with which bytes. */
+
+/* False: the packet is not the port's, and nothing was done. */
+bool port_setup(const uint8_t packet[8], enum handshake *handshake, uint8_t *bytes, size_t *length);
+enum handshake port_bulk_out(const uint8_t *packet, size_t length);
+enum handshake port_bulk_in(uint8_t *bytes, size_t *length);
+enum handshake port_interrupt_in(uint8_t *bytes, size_t *length);
+void port_reset(void);
+void port_suspend(void);
+
+/* For a controller that works ahead: what a poll would be answered. The unit does not hear of it. */
+enum handshake port_next(enum endpoint endpoint, uint8_t *bytes, size_t *length);
+
+/* The same: whether each packet of the endpoint is answered STALL now, and whether one of Bulk-OUT is answered NAK. */
+bool port_is_stalled(enum endpoint endpoint);
+bool port_message_waits(void);
+
+bool port_is_configured(void);
 
 /* The main loop's calls. Each masks the controller's interrupt while it is in the library: a unit has one caller at a time. */
 

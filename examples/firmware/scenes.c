@@ -5,17 +5,28 @@
 #include "port.h"
 
 #include <stdio.h>
+#include <string.h>
 
 static const struct setup get_device = {"GET_DESCRIPTOR of the device", 0x80, 6, 0x0100, 0, 18};
 static const struct setup set_address = {"SET_ADDRESS 5", 0x00, 5, 5, 0, 0};
 static const struct setup get_configuration = {"GET_DESCRIPTOR of the configuration", 0x80, 6, 0x0200, 0, 39};
 static const struct setup set_configuration = {"SET_CONFIGURATION 1", 0x00, 9, 1, 0, 0};
 static const struct setup set_interface = {"SET_INTERFACE 0", 0x01, 11, 0, 0, 0};
-static const struct setup get_string = {"GET_DESCRIPTOR of a string, of which there are none", 0x80, 6, 0x0301, 0, 255};
+static const struct setup get_qualifier = {"GET_DESCRIPTOR of the other speed's device, of which there is none", 0x80, 6, 0x0600, 0, 10};
+static const struct setup get_languages = {"GET_DESCRIPTOR of the languages", 0x80, 6, 0x0300, 0, 255};
+static const struct setup get_serial = {"GET_DESCRIPTOR of the serial number", 0x80, 6, 0x0303, 0x0409, 255};
+static const struct setup configuration_now = {"GET_CONFIGURATION", 0x80, 8, 0, 0, 1};
+static const struct setup setting_now = {"GET_INTERFACE", 0x81, 10, 0, 0, 1};
+static const struct setup device_status = {"GET_STATUS of the device", 0x80, 0, 0, 0, 2};
+static const struct setup interface_status = {"GET_STATUS of the interface", 0x81, 0, 0, 0, 2};
+static const struct setup control_status = {"GET_STATUS of endpoint 0", 0x82, 0, 0, 0, 2};
 static const struct setup get_capabilities = {"GET_CAPABILITIES", 0xA1, 7, 0, 0, 24};
 static const struct setup ren_on = {"REN_CONTROL 1", 0xA1, 160, 1, 0, 1};
 static const struct setup pulse = {"INDICATOR_PULSE", 0xA1, 64, 0, 0, 1};
 static const struct setup out_halted = {"GET_STATUS of Bulk-OUT", 0x82, 0, 0, 0x01, 2};
+static const struct setup in_halted = {"GET_STATUS of Bulk-IN", 0x82, 0, 0, 0x82, 2};
+static const struct setup halt_out = {"SET_FEATURE, a halt of Bulk-OUT", 0x02, 3, 0, 0x01, 0};
+static const struct setup halt_in = {"SET_FEATURE, a halt of Bulk-IN", 0x02, 3, 0, 0x82, 0};
 static const struct setup clear_out = {"CLEAR_FEATURE, the halt of Bulk-OUT", 0x02, 1, 0, 0x01, 0};
 static const struct setup clear_in = {"CLEAR_FEATURE, the halt of Bulk-IN", 0x02, 1, 0, 0x82, 0};
 static const struct setup initiate_clear = {"INITIATE_CLEAR", 0xA1, 5, 0, 0, 1};
@@ -35,10 +46,28 @@ static struct setup read_status(uint8_t tag)
 }
 
 static int32_t room = 19000;
+static uint32_t clock_now;
 
 int32_t firmware_measures(void)
 {
     return room;
+}
+
+uint32_t firmware_milliseconds(void)
+{
+    return clock_now;
+}
+
+/* The scenes say what the room does. */
+void firmware_heats(int32_t setpoint)
+{
+    (void)setpoint;
+}
+
+static void time_passes(uint32_t milliseconds)
+{
+    clock_now += milliseconds;
+    printf("  %-11s goes on by %lu milliseconds\n", "clock", (unsigned long)milliseconds);
 }
 
 static void room_is(int32_t thousandths)
@@ -78,7 +107,10 @@ static void enumeration(void)
     host_setup(get_device);
     host_setup(set_address);
     host_setup(get_configuration);
-    host_setup(get_string);
+    host_setup(get_qualifier);
+    host_setup(get_languages);
+    host_setup(get_serial);
+    host_setup(configuration_now);
     host_setup(set_configuration);
     host_setup(set_interface);
     host_resets();
@@ -86,6 +118,23 @@ static void enumeration(void)
     host_setup(set_configuration);
     host_setup(get_capabilities);
     host_setup(ren_on);
+}
+
+static void standard(void)
+{
+    scene("The requests that the port leaves to the device; SET_INTERFACE ends the halts");
+    host_setup(configuration_now);
+    host_setup(setting_now);
+    host_setup(device_status);
+    host_setup(interface_status);
+    host_setup(control_status);
+    host_setup(halt_out);
+    host_setup(halt_in);
+    host_setup(out_halted);
+    host_setup(in_halted);
+    host_setup(set_interface);
+    host_setup(out_halted);
+    host_setup(in_halted);
 }
 
 static void identity(void)
@@ -218,6 +267,70 @@ static void unread(void)
     ask(34, "SETP?\n");
 }
 
+static void late_measurement(void)
+{
+    scene("TEMP? takes two seconds; the host gives up after one, and asks for the setpoint: the temperature is not its answer");
+    host_sends(36, 1, "TEMP?\n");
+    turns(1);
+    host_asks(37, 1024);
+    time_passes(1000);
+    turns(1);
+    host_polls();
+    host_setup(abort_in(37));
+    host_polls();
+    host_setup(check_abort_in);
+    time_passes(1000);
+    turns(1);
+    ask(38, "SETP?\n");
+    host_sends(40, 1, "TEMP?\n");
+    turns(1);
+    host_asks(41, 1024);
+    time_passes(2000);
+    turns(1);
+    host_reads();
+}
+
+/* The next three are what a controller that works ahead has to be held to (ahead.c). */
+
+static void clear_with_packet_loaded(void)
+{
+    scene("A clear while a read is open: CHECK says PENDING until the empty packet has been fetched, and the next read begins with its own header");
+    host_asks(42, 1024);
+    host_setup(initiate_clear);
+    host_setup(check_clear);
+    host_polls();
+    host_setup(check_clear);
+    host_setup(clear_out);
+    ask(43, "SETP?\n");
+}
+
+static void abort_with_packet_loaded(void)
+{
+    scene("An abort of a read whose answer, one short packet, is there and not fetched: the answer is dropped, and the next read has its own");
+    host_sends(45, 1, "SETP?\n");
+    turns(2);
+    host_asks(46, 1024);
+    turns(1);
+    host_setup(abort_in(46));
+    host_polls();
+    host_setup(check_abort_in);
+    ask(47, "SETP?\n");
+}
+
+static void abort_of_request_that_waits(void)
+{
+    scene("A request comes while a message is ready, and is aborted before it is let in: it opens no read later, and the next request is in turn");
+    host_sends_and_asks_while_masked(49, "SETP?\n", 1024);
+    turns(1);
+    host_sees_answers();
+    host_setup(abort_in(50));
+    turns(2);
+    host_polls();
+    host_asks(51, 1024);
+    turns(1);
+    host_reads();
+}
+
 static void service(void)
 {
     scene("A message that cannot be carried out: the bench is told on Interrupt-IN, and the status byte that it asks for comes there too");
@@ -302,10 +415,17 @@ static void stray_write(void)
     ask(1, "SETP?\n");
 }
 
-int main(void)
+int main(int count, char **words)
 {
-    firmware_start();
+    enum controller_kind kind = count == 2 && strcmp(words[1], "ahead") == 0 ? CONTROLLER_WORKS_AHEAD : CONTROLLER_ASKS;
+
+    if (count > 2 || (count == 2 && kind == CONTROLLER_ASKS)) {
+        fprintf(stderr, "usage: firmware [ahead]    plays the scenes, with a controller that asks or, with the word, one that works ahead\n");
+        return 2;
+    }
+    firmware_start(kind, TMC_FULL_SPEED);
     enumeration();
+    standard();
     identity();
     setpoint();
     setpoint_in_halves();
@@ -316,6 +436,10 @@ int main(void)
     late_after_clear();
     late_after_features();
     unread();
+    late_measurement();
+    clear_with_packet_loaded();
+    abort_with_packet_loaded();
+    abort_of_request_that_waits();
     service();
     service_of_room();
     never_polled();

@@ -1,10 +1,15 @@
-/* The requests of USB 2.0 that the port leaves to the device: those of enumeration. */
+/* The setup packets: the port's go to the port, and here are the requests of USB 2.0 that it leaves to the device. */
 #ifndef STANDARD_H
 #define STANDARD_H
 
-#include <stdint.h>
+#include "controller.h"
 
-/* Answers a setup packet that the port has no row for: serves it, or stalls. */
-void standard_request(const uint8_t packet[8]);
+struct standard_answer {
+    enum handshake handshake;
+    size_t length;
+    uint8_t bytes[64];
+};
+
+struct standard_answer standard_answers(const uint8_t setup[8]);
 
 #endif

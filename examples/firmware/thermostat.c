@@ -4,16 +4,21 @@
 
 #define HIGHEST 99999 /* degrees, in thousandths: 99.999 */
 #define TOLERANCE 100 /* a tenth of a degree */
+#define MEASURING 2000 /* milliseconds */
 
 /* 116 bytes: with the 12 of its header it fills two packets of 64, so that an empty one has to close the transfer. */
 static const char identity[] = "Tewennos works,proving-room thermostat,serial number 00027,"
                                "firmware 1.0 with the port for USBTMC 1.0 and USB488 1.0\n";
 _Static_assert(sizeof identity - 1 == 116, "the scenes show the empty packet");
 
-/* The text without its newline. */
+/* The text without its newline, and without the CR that PyVISA puts before it. */
 static size_t without_newline(const uint8_t *message, size_t length)
 {
-    return length != 0 && message[length - 1] == '\n' ? length - 1 : length;
+    if (length != 0 && message[length - 1] == '\n')
+        length--;
+    if (length != 0 && message[length - 1] == '\r')
+        length--;
+    return length;
 }
 
 static bool equals(const uint8_t *message, size_t length, const char *text)
@@ -65,6 +70,8 @@ enum request thermostat_reads(const uint8_t *message, size_t length, int32_t *th
         return ASK_IDENTITY;
     if (equals(message, length, "SETP?"))
         return ASK_SETPOINT;
+    if (equals(message, length, "TEMP?"))
+        return ASK_TEMPERATURE;
     if (length > word && memcmp(message, set, word) == 0 && read_degrees(message + word, length - word, thousandths))
         return SET_SETPOINT;
     return REFUSED;
@@ -86,10 +93,27 @@ static size_t write_degrees(int32_t thousandths, uint8_t *text)
     return length;
 }
 
-size_t thermostat_answers(enum request question, int32_t setpoint, uint8_t *answer, size_t room)
+size_t thermostat_text(const uint8_t *message, size_t length)
+{
+    size_t shown = 0;
+
+    length = without_newline(message, length);
+    while (shown < length && message[shown] >= ' ' && message[shown] <= '~')
+        shown++;
+    return shown;
+}
+
+uint32_t thermostat_takes(enum request question)
+{
+    return question == ASK_TEMPERATURE ? MEASURING : 0;
+}
+
+size_t thermostat_answers(enum request question, int32_t setpoint, int32_t temperature, uint8_t *answer, size_t room)
 {
     if (question == ASK_SETPOINT && room >= 7)
         return write_degrees(setpoint, answer);
+    if (question == ASK_TEMPERATURE && room >= 7)
+        return write_degrees(temperature, answer);
     if (question == ASK_IDENTITY && room >= sizeof identity - 1) {
         memcpy(answer, identity, sizeof identity - 1);
         return sizeof identity - 1;
