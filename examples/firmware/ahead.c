@@ -31,13 +31,16 @@ static void tell_what_has_gone(void)
         port_interrupt_in(bytes, &length);
 }
 
+/* Where a packet makes a message ready, the endpoint is held before there is room for another one. */
 static void give_what_came(void)
 {
     const uint8_t *packet;
     size_t length;
 
-    while ((packet = fifo_received(&length)) != NULL && port_bulk_out(packet, length) != HANDSHAKE_NAK)
+    while ((packet = fifo_received(&length)) != NULL && port_bulk_out(packet, length) != HANDSHAKE_NAK) {
+        fifo_hold(port_message_waits());
         fifo_done();
+    }
 }
 
 static void throw_away_what_came(void)

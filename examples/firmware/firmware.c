@@ -132,6 +132,8 @@ static void tell_status(void)
 {
     uint8_t bits = (uint8_t)((loop.refused ? STATUS_COMMAND_ERROR : 0) | (loop.at_setpoint ? STATUS_AT_SETPOINT : 0));
 
+    if (port_lost_request())
+        loop.asks = true;
     if (!port_set_status(bits, loop.asks))
         return;
     if (loop.asks)

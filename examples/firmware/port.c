@@ -12,6 +12,9 @@
    back. So an answer stays with the main loop until a request of the host waits for it (in_phase), and a new message puts it away. What
    is left is a host that has fetched a part of an answer and asks something else: the rest comes first, unless it clears.
 
+   The lost request. SET_CONFIGURATION and reset drop a service request that waits. The host that comes then is to hear of it, so the main loop is told, and asks
+   again.
+
    The kept request. While a packet of Interrupt-IN waits, bit 6 of the status byte that the unit holds is the next service request, and a
    byte that is set without it takes the request back. So the main loop sets the other bits, and bit 6 stays as it is held. */
 #include "port.h"
@@ -25,6 +28,7 @@ static struct {
     uint32_t generation;
     bool triggered;
     bool pulsed;
+    bool lost_request;
 } port;
 
 static bool begins; /* a bulk transfer, with the packet of this call */
@@ -102,15 +106,29 @@ static bool drops_reply(const uint8_t *packet, const uint8_t *answered, bool was
     }
 }
 
+/* Before a call with which the unit's side of Interrupt-IN is as at power-on: 0x81 is a service request that waits, and bit 6 one that is kept. */
+static bool has_request(void)
+{
+    return port.unit.notify1 == 0x81 || (port.unit.status & ASKS_SERVICE) != 0;
+}
+
+static bool is_set_configuration(const uint8_t *packet)
+{
+    return packet[0] == 0x00 && packet[1] == 0x09;
+}
+
 bool port_setup(const uint8_t packet[8], enum handshake *handshake, uint8_t *bytes, size_t *length)
 {
     bool was_reading = is_reading();
+    bool had_request = has_request();
     struct tmc_answer answer = traced(TRACED_SETUP, packet, 8, tmc_setup(&port.unit, packet, 8, bytes, TMC_CONTROL_BUFFER), bytes);
 
     *handshake = answer.number == TMC_NUMBER_DONE ? HANDSHAKE_ACK : HANDSHAKE_STALL;
     *length = answer.length;
     if (answer.number == TMC_NUMBER_DONE && drops_reply(packet, bytes, was_reading))
         port.generation++;
+    if (answer.number == TMC_NUMBER_DONE && is_set_configuration(packet) && had_request)
+        port.lost_request = true;
     if (answer.number == TMC_NUMBER_UNSOUND)
         start_over();
     note_what_it_tells(answer);
@@ -148,6 +166,7 @@ enum handshake port_interrupt_in(uint8_t *bytes, size_t *length)
 
 void port_reset(void)
 {
+    port.lost_request = port.lost_request || has_request();
     if (traced(TRACED_BUS_RESET, NULL, 0, tmc_bus_reset(&port.unit), NULL).number == TMC_NUMBER_UNSOUND)
         power_on();
     port.generation++;
@@ -275,6 +294,11 @@ bool port_triggered(void)
 bool port_pulsed(void)
 {
     return noted(&port.pulsed);
+}
+
+bool port_lost_request(void)
+{
+    return noted(&port.lost_request);
 }
 
 struct tmc_unit *port_unit(void)

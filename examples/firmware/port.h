@@ -52,6 +52,9 @@ void port_panel(void);
 bool port_triggered(void);
 bool port_pulsed(void);
 
+/* Whether a service request went since this was asked last, which no host had fetched. */
+bool port_lost_request(void);
+
 /* For the scene in which a stray write meets the unit. */
 struct tmc_unit *port_unit(void);
 

@@ -403,6 +403,19 @@ static void bus(void)
     host_polls_interrupt();
 }
 
+static void request_over_reset(void)
+{
+    scene("A service request that nobody fetched, and a reset: the host that comes then is told");
+    host_sends(3, 1, "SETP warm\n");
+    turns(1);
+    host_resets();
+    turns(1);
+    host_setup(set_configuration);
+    turns(1);
+    host_polls_interrupt();
+    host_polls_interrupt();
+}
+
 static void stray_write(void)
 {
     scene("A stray write meets the unit: the port answers 1, and the firmware starts over");
@@ -444,6 +457,7 @@ int main(int count, char **words)
     service_of_room();
     never_polled();
     bus();
+    request_over_reset();
     stray_write();
     return 0;
 }
