@@ -174,6 +174,7 @@ int main(int count, char **words)
     }
     signal(SIGINT, end_it);
     signal(SIGTERM, end_it);
+    signal(SIGPIPE, SIG_IGN); /* nobody may read what it says */
     room.measured = firmware_milliseconds();
     firmware_start(options.kind, options.is_fast ? TMC_HIGH_SPEED : TMC_FULL_SPEED);
     if (options.echoes)

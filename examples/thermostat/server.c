@@ -32,6 +32,7 @@ struct visitor {
 };
 
 #define WAITING_MOST (128u * 1024u) /* bytes that the host has not fetched, from which on it is not read */
+#define TURN_MOST (128u * 1024u)    /* bytes of the host's that are read before the others have their turn */
 
 static struct {
     int listener;
@@ -51,6 +52,7 @@ static struct {
     size_t length;
     size_t wanted;
     uint64_t skipped; /* bytes that are to come and are of no use */
+    size_t turn;      /* bytes read in this turn */
 
     uint8_t out[WAITING_MOST + (TRANSFERS + 1u) * (USBIP_HEAD + TRANSFER_LONGEST_IN)];
     size_t out_length;
@@ -173,18 +175,22 @@ static void do_command(void)
     host.length = 0;
 }
 
-/* Reads into a buffer up to `wanted` bytes. False: there is no more for now. */
+/* Reads into a buffer up to `wanted` bytes. False: there is no more for now, or the turn is over. */
 static bool read_up_to(uint8_t *bytes, size_t *length, size_t wanted)
 {
     ssize_t got;
 
     if (*length == wanted)
         return true;
+    if (host.turn >= TURN_MOST)
+        return false;
     got = recv(host.socket, bytes + *length, wanted - *length, MSG_DONTWAIT);
-    if (got > 0)
+    if (got > 0) {
         *length += (size_t)got;
-    else if (got == 0 || (errno != EAGAIN && errno != EINTR))
+        host.turn += (size_t)got;
+    } else if (got == 0 || (errno != EAGAIN && errno != EINTR)) {
         host.broken = gone;
+    }
     return *length == wanted;
 }
 
@@ -228,6 +234,7 @@ static void serve_host(void)
 {
     unsigned commands = 0;
 
+    host.turn = 0;
     while (host.broken == NULL && host.out_length < WAITING_MOST && commands++ < TRANSFERS && read_command())
         ;
 }
