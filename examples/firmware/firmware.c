@@ -126,14 +126,24 @@ static void watch_room(void)
     }
 }
 
+/* A host begins anew, or another one comes. What the last one sent, and how it was answered, is none of its business; that the room is at its setpoint is. */
+static void begin_anew(void)
+{
+    bool lost_request;
+
+    if (!port_began_anew(&lost_request))
+        return;
+    loop.refused = false;
+    if (lost_request && loop.at_setpoint)
+        loop.asks = true;
+}
+
 /* In every turn: SET_CONFIGURATION and a reset leave a status byte of 0. A request that cannot be made yet, since no host has configured
    the device, is made when one has. */
 static void tell_status(void)
 {
     uint8_t bits = (uint8_t)((loop.refused ? STATUS_COMMAND_ERROR : 0) | (loop.at_setpoint ? STATUS_AT_SETPOINT : 0));
 
-    if (port_lost_request())
-        loop.asks = true;
     if (!port_set_status(bits, loop.asks))
         return;
     if (loop.asks)
@@ -151,6 +161,7 @@ static void do_what_was_told(void)
 
 void firmware_turn(void)
 {
+    begin_anew();
     if (!take_message()) {
         if (is_worked_out())
             work();

@@ -12,8 +12,8 @@
    back. So an answer stays with the main loop until a request of the host waits for it (in_phase), and a new message puts it away. What
    is left is a host that has fetched a part of an answer and asks something else: the rest comes first, unless it clears.
 
-   The lost request. SET_CONFIGURATION and reset drop a service request that waits. The host that comes then is to hear of it, so the main loop is told, and asks
-   again.
+   The lost request. SET_CONFIGURATION and reset drop a service request that waits. The host that comes then may be another one. So the main loop is told, and asks
+   again for what is still so.
 
    The kept request. While a packet of Interrupt-IN waits, bit 6 of the status byte that the unit holds is the next service request, and a
    byte that is set without it takes the request back. So the main loop sets the other bits, and bit 6 stays as it is held. */
@@ -28,6 +28,7 @@ static struct {
     uint32_t generation;
     bool triggered;
     bool pulsed;
+    bool began_anew;
     bool lost_request;
 } port;
 
@@ -112,6 +113,12 @@ static bool has_request(void)
     return port.unit.notify1 == 0x81 || (port.unit.status & ASKS_SERVICE) != 0;
 }
 
+static void note_beginning(bool had_request)
+{
+    port.began_anew = true;
+    port.lost_request = port.lost_request || had_request;
+}
+
 static bool is_set_configuration(const uint8_t *packet)
 {
     return packet[0] == 0x00 && packet[1] == 0x09;
@@ -127,8 +134,8 @@ bool port_setup(const uint8_t packet[8], enum handshake *handshake, uint8_t *byt
     *length = answer.length;
     if (answer.number == TMC_NUMBER_DONE && drops_reply(packet, bytes, was_reading))
         port.generation++;
-    if (answer.number == TMC_NUMBER_DONE && is_set_configuration(packet) && had_request)
-        port.lost_request = true;
+    if (answer.number == TMC_NUMBER_DONE && is_set_configuration(packet))
+        note_beginning(had_request);
     if (answer.number == TMC_NUMBER_UNSOUND)
         start_over();
     note_what_it_tells(answer);
@@ -166,7 +173,7 @@ enum handshake port_interrupt_in(uint8_t *bytes, size_t *length)
 
 void port_reset(void)
 {
-    port.lost_request = port.lost_request || has_request();
+    note_beginning(has_request());
     if (traced(TRACED_BUS_RESET, NULL, 0, tmc_bus_reset(&port.unit), NULL).number == TMC_NUMBER_UNSOUND)
         power_on();
     port.generation++;
@@ -274,11 +281,13 @@ void port_panel(void)
     controller_unmask();
 }
 
-/* A note is read and struck out in one piece. */
+/* A note is read and struck out in one piece. One that is not there needs no mask: it is looked for again. */
 static bool noted(bool *note)
 {
     bool was;
 
+    if (!*note)
+        return false;
     controller_mask();
     was = *note;
     *note = false;
@@ -296,9 +305,10 @@ bool port_pulsed(void)
     return noted(&port.pulsed);
 }
 
-bool port_lost_request(void)
+bool port_began_anew(bool *lost_request)
 {
-    return noted(&port.lost_request);
+    *lost_request = noted(&port.lost_request);
+    return noted(&port.began_anew);
 }
 
 struct tmc_unit *port_unit(void)

@@ -405,7 +405,7 @@ static void bus(void)
 
 static void request_over_reset(void)
 {
-    scene("A service request that nobody fetched, and a reset: the host that comes then is told");
+    scene("A service request that nobody fetched, and a reset: the host that comes then is told of the room, and not of what another one sent");
     host_sends(3, 1, "SETP warm\n");
     turns(1);
     host_resets();

@@ -8,12 +8,14 @@
 #include "transfers.h"
 
 #include <errno.h>
+#include <poll.h>
 #include <signal.h>
 #include <stdarg.h>
 #include <stdio.h>
 #include <stdlib.h>
 #include <string.h>
 #include <time.h>
+#include <unistd.h>
 
 #define TICK 20 /* milliseconds that nothing may happen before the firmware has its turn all the same */
 
@@ -76,10 +78,20 @@ void firmware_says(const char *format, ...)
     log_line("thermostat", "%s", words);
 }
 
+/* What nobody reads must not hold it up: where standard output is full, the line is left out. */
+static bool is_heard(void)
+{
+    struct pollfd out = {.fd = STDOUT_FILENO, .events = POLLOUT};
+
+    return poll(&out, 1, 0) == 1 && (out.revents & POLLOUT) != 0;
+}
+
 void server_says(const char *words)
 {
-    printf("thermostat: %s\n", words);
-    fflush(stdout);
+    if (is_heard()) {
+        printf("thermostat: %s\n", words);
+        fflush(stdout);
+    }
     log_line("server", "%s", words);
 }
 

@@ -41,22 +41,24 @@ static struct {
     int visitor_count;
 } server = {.listener = -1};
 
-static struct {
+struct host {
     int socket;         /* -1: there is no host */
     const char *broken; /* why it cannot go on, or NULL */
+    bool had_rival;     /* another host has asked for the device meanwhile */
 
     uint8_t head[USBIP_HEAD];
     size_t head_length;
     struct usbip_command command; /* once its head is whole */
-    uint8_t bytes[TRANSFER_LONGEST];
-    size_t length;
+    size_t length;                /* of its bytes */
     size_t wanted;
     uint64_t skipped; /* bytes that are to come and are of no use */
     size_t turn;      /* bytes read in this turn */
-
-    uint8_t out[WAITING_MOST + (TRANSFERS + 1u) * (USBIP_HEAD + TRANSFER_LONGEST_IN)];
     size_t out_length;
-} host = {.socket = -1};
+};
+
+static struct host host = {.socket = -1};
+static uint8_t host_bytes[TRANSFER_LONGEST];
+static uint8_t host_out[WAITING_MOST + (TRANSFERS + 1u) * (USBIP_HEAD + TRANSFER_LONGEST_IN)];
 
 static const char gone[] = "the host has gone; the bus is reset";
 
@@ -73,7 +75,7 @@ static int64_t now(void)
 /* There is always room: transfers that wait, and one return to the command that is read, are less than what is behind WAITING_MOST. */
 void transfers_return(const uint8_t *bytes, size_t length)
 {
-    memcpy(host.out + host.out_length, bytes, length);
+    memcpy(host_out + host.out_length, bytes, length);
     host.out_length += length;
 }
 
@@ -83,10 +85,10 @@ void server_flush(void)
 
     if (host.socket < 0 || host.out_length == 0)
         return;
-    sent = send(host.socket, host.out, host.out_length, MSG_NOSIGNAL | MSG_DONTWAIT);
+    sent = send(host.socket, host_out, host.out_length, MSG_NOSIGNAL | MSG_DONTWAIT);
     if (sent > 0) {
         host.out_length -= (size_t)sent;
-        memmove(host.out, host.out + sent, host.out_length);
+        memmove(host_out, host_out + sent, host.out_length);
     } else if (sent < 0 && errno != EAGAIN && errno != EINTR) {
         host.broken = gone;
     }
@@ -100,8 +102,7 @@ static void attach(int socket)
 
     setsockopt(socket, IPPROTO_TCP, TCP_NODELAY, &one, sizeof one);
     setsockopt(socket, SOL_SOCKET, SO_KEEPALIVE, &one, sizeof one);
-    memset(&host, 0, sizeof host);
-    host.socket = socket;
+    host = (struct host){.socket = socket};
     server_says("a host attaches the device; the bus is reset");
     wire_event(EVENT_RESET, NULL, 0);
 }
@@ -170,7 +171,7 @@ static void do_command(void)
     else if (is_too_long(command))
         refuse(command, USBIP_TOO_LONG);
     else
-        transfers_submit(command, host.bytes);
+        transfers_submit(command, host_bytes);
     host.head_length = 0;
     host.length = 0;
 }
@@ -224,7 +225,7 @@ static bool read_command(void)
         }
         expect_what_follows(&host.command);
     }
-    if (!skip() || !read_up_to(host.bytes, &host.length, host.wanted))
+    if (!skip() || !read_up_to(host_bytes, &host.length, host.wanted))
         return false;
     do_command();
     return true;
@@ -266,8 +267,9 @@ static void answer_import(int which)
     uint8_t bytes[USBIP_LONGEST_REPLY];
     int socket = visitor->socket;
 
-    if (status == USBIP_BUSY)
+    if (status == USBIP_BUSY && !host.had_rival)
         server_says("another host asks for the device, and is told that it is busy");
+    host.had_rival = status == USBIP_BUSY;
     if (!reply(socket, bytes, usbip_put_import(bytes, status, server.is_fast)) || status != USBIP_OK) {
         send_away(which);
         return;

@@ -46,9 +46,7 @@ enum usbip_request usbip_request_of(const uint8_t *bytes)
 
 bool usbip_names_device(const uint8_t *import)
 {
-    static const char id[BUS_ID] = USBIP_BUS_ID;
-
-    return memcmp(import + USBIP_REQUEST, id, BUS_ID) == 0;
+    return strncmp((const char *)import + USBIP_REQUEST, USBIP_BUS_ID, BUS_ID) == 0;
 }
 
 static uint8_t *put_reply(uint8_t *at, enum reply reply, enum usbip_status status)
