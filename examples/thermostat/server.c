@@ -1,6 +1,6 @@
 /* Nothing that a connection sends reaches another one, and each has a bound:
    - one that has not asked for the device yet is a visitor. It has room for one request, and five seconds. There are 256 at most; behind that the
-     oldest has to go;
+     oldest has to go, once it has had a fifth of a second, and the others wait at the door;
    - the host has room for one command with its bytes, for what waits in transfers.c, and for what it has not fetched yet. As long as it fetches
      nothing, nothing more is read of it. */
 #define _POSIX_C_SOURCE 200809L
@@ -22,7 +22,9 @@
 #include <unistd.h>
 
 #define VISITORS 256
-#define PATIENCE 5000 /* milliseconds */
+#define DOOR 1024     /* connections that wait to be let in */
+#define PATIENCE 5000 /* milliseconds that a visitor may stay */
+#define COURTESY 200  /* and those that it may stay where others want in */
 
 struct visitor {
     int socket;
@@ -325,10 +327,15 @@ static void hear_visitor(int which)
     }
 }
 
-/* False: nobody is at the door. */
+static bool has_room(void)
+{
+    return server.visitor_count < VISITORS || now() - server.visitors[0].since >= COURTESY;
+}
+
+/* Most have said already what they want. False: nobody is at the door, or has to wait there. */
 static bool let_in(void)
 {
-    int socket = accept(server.listener, NULL, NULL);
+    int socket = has_room() ? accept(server.listener, NULL, NULL) : -1;
     struct visitor *visitor;
 
     if (socket < 0)
@@ -340,6 +347,7 @@ static bool let_in(void)
     visitor->socket = socket;
     visitor->since = now();
     visitor->length = 0;
+    hear_visitor(server.visitor_count - 1);
     return true;
 }
 
@@ -363,7 +371,7 @@ uint16_t server_start(uint16_t port, bool is_fast)
         return 0;
     setsockopt(server.listener, SOL_SOCKET, SO_REUSEADDR, &one, sizeof one);
     fcntl(server.listener, F_SETFL, O_NONBLOCK);
-    if (bind(server.listener, (struct sockaddr *)&address, sizeof address) != 0 || listen(server.listener, VISITORS) != 0)
+    if (bind(server.listener, (struct sockaddr *)&address, sizeof address) != 0 || listen(server.listener, DOOR) != 0)
         return 0;
     return getsockname(server.listener, (struct sockaddr *)&address, &length) == 0 ? ntohs(address.sin_port) : 0;
 }
@@ -376,7 +384,7 @@ static short host_events(void)
 
 void server_wait(int milliseconds)
 {
-    struct pollfd polled[VISITORS + 2] = {{.fd = server.listener, .events = POLLIN}, {.fd = host.socket, .events = host_events()}};
+    struct pollfd polled[VISITORS + 2] = {{.fd = server.listener, .events = has_room() ? POLLIN : 0}, {.fd = host.socket, .events = host_events()}};
     int count = server.visitor_count;
     int i;
 
