@@ -12,8 +12,8 @@
    back. So an answer stays with the main loop until a request of the host waits for it (in_phase), and a new message puts it away. What
    is left is a host that has fetched a part of an answer and asks something else: the rest comes first, unless it clears.
 
-   The lost request. SET_CONFIGURATION and reset drop a service request that waits. The host that comes then may be another one. So the main loop is told, and asks
-   again for what is still so.
+   The lost request. SET_CONFIGURATION and reset drop a service request that waits. The host that comes then may be another one. So the main loop is
+   told, and asks again for what is still so.
 
    The kept request. While a packet of Interrupt-IN waits, bit 6 of the status byte that the unit holds is the next service request, and a
    byte that is set without it takes the request back. So the main loop sets the other bits, and bit 6 stays as it is held. */

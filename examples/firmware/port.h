@@ -52,7 +52,8 @@ void port_panel(void);
 bool port_triggered(void);
 bool port_pulsed(void);
 
-/* Whether the port began anew since this was asked last, by SET_CONFIGURATION or a reset; and whether a service request went with it, which no host had fetched. */
+/* Whether the port began anew since this was asked last, by SET_CONFIGURATION or a reset; and whether a service request went with it, which no host had
+   fetched. */
 bool port_began_anew(bool *lost_request);
 
 /* For the scene in which a stray write meets the unit. */

@@ -20,7 +20,19 @@
 
 #define MOST_IN_A_WHILE 6
 
-enum counted { COUNT_SETUPS, COUNT_ABORTS, COUNT_COUNTS, COUNT_PENDING, COUNT_SERVICE, COUNT_READ, COUNT_SENT, COUNT_LATE_STALLS, COUNT_HELD, COUNT_GIVEN_UP, COUNTED };
+enum counted {
+    COUNT_SETUPS,
+    COUNT_ABORTS,
+    COUNT_COUNTS,
+    COUNT_PENDING,
+    COUNT_SERVICE,
+    COUNT_READ,
+    COUNT_SENT,
+    COUNT_LATE_STALLS,
+    COUNT_HELD,
+    COUNT_GIVEN_UP,
+    COUNTED
+};
 static const char *const count_words[COUNTED] = {[COUNT_SETUPS] = "setup packets answered the same",
                                                  [COUNT_ABORTS] = "aborts of Bulk-IN answered SUCCESS while a packet was loaded",
                                                  [COUNT_COUNTS] = "counts of an aborted read that were not 0",

@@ -22,7 +22,16 @@ static uint8_t next_tag(struct traffic *traffic)
 static void put_header(struct traffic *traffic, uint8_t kind, uint32_t size, uint8_t attributes, uint8_t term)
 {
     const uint8_t tag = next_tag(traffic);
-    const uint8_t header[HEADER] = {kind, tag, (uint8_t)~tag, 0, (uint8_t)size, (uint8_t)(size >> 8), (uint8_t)(size >> 16), (uint8_t)(size >> 24), attributes, term};
+    const uint8_t header[HEADER] = {kind,
+                                    tag,
+                                    (uint8_t)~tag,
+                                    0,
+                                    (uint8_t)size,
+                                    (uint8_t)(size >> 8),
+                                    (uint8_t)(size >> 16),
+                                    (uint8_t)(size >> 24),
+                                    attributes,
+                                    term};
 
     memset(traffic->transfer, 0, sizeof traffic->transfer);
     memcpy(traffic->transfer, header, HEADER);
