@@ -40,6 +40,7 @@ find_machine() {
     need usbip usbip
     need sigrok-cli sigrok-cli
     need lsusb usbutils
+    need udevadm udev
     need_module pyvisa_py python3-pyvisa-py
     need_module usb.core python3-usb
 }
@@ -93,7 +94,7 @@ put_jobs() { # ROOT
     local job
     mkdir -p "$1/jobs/examples"
     cp "$here"/jobs/*.sh "$here"/jobs/*.py "$1/jobs/"
-    cp examples/hosts/*.py "$1/jobs/examples/"
+    cp examples/hosts/* "$1/jobs/examples/"
     for job in messages requests service faults rounds command events half reader; do
         gcc -std=c11 -D_DEFAULT_SOURCE -O2 -Wall -Wextra -Wpedantic -Wconversion -Wshadow -Werror -o "$1/jobs/$job" \
             "$here/jobs/$job.c" "$here"/jobs/{device,raw}.c ||
