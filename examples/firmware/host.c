@@ -2,6 +2,7 @@
 
 #include "controller.h"
 #include "firmware.h"
+#include "names.h"
 #include "trace.h"
 
 #include <stdarg.h>
@@ -83,26 +84,6 @@ static void print_text(const uint8_t *bytes, size_t length)
 
 /* Setup packets, and the bus. */
 
-static const char *status_words(uint8_t status)
-{
-    switch (status) {
-    case 0x01:
-        return "SUCCESS";
-    case 0x02:
-        return "PENDING";
-    case 0x20:
-        return "INTERRUPT_IN_BUSY";
-    case 0x80:
-        return "FAILED";
-    case 0x81:
-        return "TRANSFER_NOT_IN_PROGRESS";
-    case 0x82:
-        return "SPLIT_NOT_IN_PROGRESS";
-    default:
-        return "SPLIT_IN_PROGRESS";
-    }
-}
-
 void host_setup(struct setup setup)
 {
     const uint8_t packet[8] = {setup.type,
@@ -121,7 +102,7 @@ void host_setup(struct setup setup)
     for (i = 0; i < answer.length; i++)
         printf(" %02x", answer.bytes[i]);
     if ((setup.type & 0x60) == 0x20 && answer.length != 0) /* a class request begins its answer with a status */
-        printf(" (%s)", status_words(answer.bytes[0]));
+        printf(" (%s)", name_of_status(answer.bytes[0]));
     printf("\n");
 }
 

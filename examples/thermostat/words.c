@@ -1,5 +1,7 @@
 #include "words.h"
 
+#include "names.h"
+
 #include <stdio.h>
 #include <string.h>
 
@@ -111,28 +113,6 @@ void words_of_setup(char *words, size_t room, const uint8_t setup[8])
     case DESCRIPTOR:
         snprintf(words, room, "%s %s %u, at most %u bytes", request->name, name_of_descriptor(setup[3]), setup[2], asked);
         break;
-    }
-}
-
-static const char *name_of_status(unsigned status)
-{
-    switch (status) {
-    case TMC_STATUS_SUCCESS:
-        return "SUCCESS";
-    case TMC_STATUS_PENDING:
-        return "PENDING";
-    case TMC_STATUS_INTERRUPT_IN_BUSY:
-        return "INTERRUPT_IN_BUSY";
-    case TMC_STATUS_FAILED:
-        return "FAILED";
-    case TMC_STATUS_TRANSFER_NOT_IN_PROGRESS:
-        return "TRANSFER_NOT_IN_PROGRESS";
-    case TMC_STATUS_SPLIT_NOT_IN_PROGRESS:
-        return "SPLIT_NOT_IN_PROGRESS";
-    case TMC_STATUS_SPLIT_IN_PROGRESS:
-        return "SPLIT_IN_PROGRESS";
-    default:
-        return "?";
     }
 }
 
