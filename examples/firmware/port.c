@@ -21,6 +21,8 @@
 
 #include "trace.h"
 
+#include <string.h>
+
 #define ASKS_SERVICE 0x40u /* bit 6 of the status byte */
 
 static struct {
@@ -185,13 +187,14 @@ void port_suspend(void)
         start_over();
 }
 
-/* A copy of the unit is polled in its place. */
+/* A copy of the unit is polled in its place. A poll reads no message, and that of Interrupt-IN no reply: they are not copied. */
 enum handshake port_next(enum endpoint endpoint, uint8_t *bytes, size_t *length)
 {
     static struct tmc_unit copy;
+    const size_t from = endpoint == BULK_IN ? offsetof(struct tmc_unit, reply) : offsetof(struct tmc_unit, packet);
     struct tmc_answer answer;
 
-    copy = port.unit;
+    memcpy((uint8_t *)&copy + from, (const uint8_t *)&port.unit + from, sizeof copy - from);
     answer = endpoint == BULK_IN ? tmc_bulk_in(&copy, bytes, controller_packet_size()) : tmc_interrupt_in(&copy, bytes, TMC_INTERRUPT_BUFFER);
     *length = answer.length;
     return handshake_of(answer);

@@ -269,9 +269,10 @@ static void answer_import(int which)
     uint8_t bytes[USBIP_LONGEST_REPLY];
     int socket = visitor->socket;
 
-    if (status == USBIP_BUSY && !host.had_rival)
+    if (status == USBIP_BUSY && !host.had_rival) {
         server_says("another host asks for the device, and is told that it is busy");
-    host.had_rival = status == USBIP_BUSY;
+        host.had_rival = true;
+    }
     if (!reply(socket, bytes, usbip_put_import(bytes, status, server.is_fast)) || status != USBIP_OK) {
         send_away(which);
         return;
