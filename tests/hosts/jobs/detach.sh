@@ -9,11 +9,11 @@ is_asked() { new_calls | grep -q '^out 02'; }
 
 title "The device is unplugged while a program waits in a read"
 note_log
-/jobs/reader >/tmp/reader &
+/jobs/reader >/run/reader &
 wait_until is_asked || wrong "it does not read"
 detach && say "unplugged"
 wait
-cat /tmp/reader
+cat /run/reader
 attach "$port" && say "plugged in again"
 try_whole_command 38000
 

@@ -7,7 +7,7 @@
 
 # What udev makes of a device's file.
 rights_by_udev() { # DEVICE FILE
-    udevadm test --action=add "$1" >/tmp/udev 2>&1 || echo "udevadm has status $?,"
+    udevadm test --action=add "$1" >/run/rules 2>&1 || echo "udevadm has status $?,"
     stat -c 'mode %a, group %G' "$2"
 }
 

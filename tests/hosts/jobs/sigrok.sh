@@ -5,16 +5,16 @@
 
 scan() { # WORD..
     note_log
-    sigrok-cli "$@" --scan >/tmp/found 2>/tmp/complaints
-    say "sigrok-cli $* --scan: status $?, instruments found: $(grep ' - ' /tmp/found | grep -c -v '^demo')"
+    sigrok-cli "$@" --scan >/run/found 2>/run/complaints
+    say "sigrok-cli $* --scan: status $?, instruments found: $(grep ' - ' /run/found | grep -c -v '^demo')"
     sleep 0.5
-    new_calls >/tmp/calls
+    new_calls >/run/calls
 }
 
 # The bytes of *IDN? in a message that was accepted, and of the answer's first word in a packet that went.
 look_for_question() {
-    if grep -q '^out 01.*2a49444e3f0a0000 #= 0' /tmp/calls; then say "the server's log has its *IDN?"; else wrong "the server's log has no *IDN? from it"; fi
-    if grep -q '^in #= 0 02.*546577656e6e6f73' /tmp/calls; then say "and the answer, which it fetched"; else wrong "the server's log has no answer"; fi
+    if grep -q '^out 01.*2a49444e3f0a0000 #= 0' /run/calls; then say "the server's log has its *IDN?"; else wrong "the server's log has no *IDN? from it"; fi
+    if grep -q '^in #= 0 02.*546577656e6e6f73' /run/calls; then say "and the answer, which it fetched"; else wrong "the server's log has no answer"; fi
 }
 
 title "A scan by one of sigrok's drivers: nothing is left open"

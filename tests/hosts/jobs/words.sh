@@ -16,9 +16,9 @@ wrong() { echo "  WRONG: $*"; }
 try() { # NAME COMMAND..
     name=$1
     shift
-    "$@" >/tmp/said 2>&1
+    "$@" >/run/said 2>&1
     status=$?
-    said=$(tr '\n' ';' </tmp/said | sed 's/;$//; s/;/; /g')
+    said=$(tr '\n' ';' </run/said | sed 's/;$//; s/;/; /g')
     if [ "$status" = 0 ]; then say "$name: ${said:-done}"; else say "$name: ${said:-nothing}, and its status is $status"; fi
 }
 
