@@ -205,19 +205,12 @@ uint8_t plain_power_on(struct plain_unit *u, size_t packet_size)
 
 /* Bulk-OUT. */
 
-/* Does a packet's data, with `left` data bytes to come, fit the transfer? */
-static uint8_t fit(const uint8_t *data, size_t length, size_t left, bool full_packet)
+/* Do `length` bytes of a packet, with `left` data bytes to come, fit the transfer? Alignment bytes may be anything. */
+static bool fits(size_t length, size_t left, bool full_packet)
 {
     size_t due = (left + 3) / 4 * 4;
 
-    if (length > due)
-        return PLAIN_WRONG_LENGTH;
-    if (length < due)
-        return full_packet ? PLAIN_DONE : PLAIN_WRONG_LENGTH;
-    for (; left < due; left++)
-        if (data[left] != 0)
-            return PLAIN_BAD_ALIGNMENT;
-    return PLAIN_DONE;
+    return length == due || (length < due && full_packet);
 }
 
 /* Takes in data of the open transfer, and closes it with its last byte. */
@@ -239,15 +232,13 @@ static void receive(struct plain_unit *u, const uint8_t *data, size_t length)
 static uint8_t message_header(struct plain_unit *u, const uint8_t *p, size_t length)
 {
     uint32_t size = get32(p + 4);
-    uint8_t number;
 
     if (p[3] != 0 || size == 0 || p[8] > 1 || (p[9] | p[10] | p[11]) != 0)
         return PLAIN_RESERVED;
     if (size > PLAIN_STORE - u->out_held)
         return PLAIN_TOO_MUCH;
-    number = fit(p + PLAIN_HEADER, length - PLAIN_HEADER, size, length == u->packet_size);
-    if (number != PLAIN_DONE)
-        return number;
+    if (!fits(length - PLAIN_HEADER, size, length == u->packet_size))
+        return PLAIN_WRONG_LENGTH;
     u->out_tag = p[1];
     u->out_eom = p[8];
     u->out_left = (uint16_t)size;
@@ -314,14 +305,12 @@ static uint8_t header(struct plain_unit *u, const uint8_t *p, size_t length, uin
 
 static uint8_t continuing(struct plain_unit *u, const uint8_t *p, size_t length)
 {
-    uint8_t number;
-
     if (length % 4 != 0)
         return PLAIN_NOT_IN_FOURS;
-    number = fit(p, length, u->out_left, length == u->packet_size);
-    if (number == PLAIN_DONE)
-        receive(u, p, length);
-    return number;
+    if (!fits(length, u->out_left, length == u->packet_size))
+        return PLAIN_WRONG_LENGTH;
+    receive(u, p, length);
+    return PLAIN_DONE;
 }
 
 struct plain_answer plain_packet(struct plain_unit *u, const uint8_t *packet, size_t length)

@@ -1,4 +1,4 @@
-/* A USBTMC device port by the rules of document 01 and request 1 of document 02, written by hand: the yardstick for the proved one. */
+/* A USBTMC device port by the rules of document 01 and requests 1 and 2 of document 02, written by hand: the yardstick for the proved one. */
 #ifndef PLAIN_H
 #define PLAIN_H
 
@@ -26,8 +26,7 @@ enum plain_number {
     PLAIN_WRONG_LENGTH,
     PLAIN_TOO_MUCH,
     PLAIN_OUT_OF_TURN,
-    PLAIN_BAD_ALIGNMENT,
-    PLAIN_NO_ROW,
+    PLAIN_NO_ROW = 15, /* 14 is free */
     PLAIN_NOT_NOW
 };
 

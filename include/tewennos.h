@@ -25,8 +25,8 @@ extern "C" {
 #define TMC_FULL_SPEED 64u      /* the packet sizes */
 #define TMC_HIGH_SPEED 512u
 
-/* The numbers that a call is answered with: document 01's table. 6 to 14 halt Bulk-OUT. The others but 0 leave all as it was, and write
-   nothing, but for 3 at power-on, which makes a unit for packets of 64. */
+/* The numbers that a call is answered with: document 01's table. 6 to 13 halt Bulk-OUT, and 14 is free: no call gives it. The others but 0
+   leave all as it was, and write nothing, but for 3 at power-on, which makes a unit for packets of 64. */
 enum tmc_number {
     TMC_NUMBER_DONE = 0,
     TMC_NUMBER_UNSOUND = 1, /* the unit is none that these functions write: overwritten, or never powered on */
@@ -42,7 +42,6 @@ enum tmc_number {
     TMC_NUMBER_WRONG_LENGTH = 11,
     TMC_NUMBER_TOO_LONG = 12,
     TMC_NUMBER_OUT_OF_TURN = 13,
-    TMC_NUMBER_MISALIGNED = 14,
     TMC_NUMBER_NO_ROW = 15, /* a setup packet that the port does not serve, or not in this form or not yet: serve it or stall it */
     TMC_NUMBER_NOT_NOW = 16
 };
@@ -124,7 +123,7 @@ struct tmc_answer tmc_power_on(struct tmc_unit *unit, uint16_t packet);
    `room` is at least 24. An answer may tell a pulse. */
 struct tmc_answer tmc_setup(struct tmc_unit *unit, const uint8_t *packet, size_t n, uint8_t *buffer, size_t room);
 
-/* A Bulk-OUT packet, 0 to P bytes. 0: acknowledged. 5: answer NAK and give the same packet again. 4 and 6 to 14: stall the endpoint.
+/* A Bulk-OUT packet, 0 to P bytes. 0: acknowledged. 5: answer NAK and give the same packet again. 4 and 6 to 13: stall the endpoint.
    An answer may tell a trigger. */
 struct tmc_answer tmc_bulk_out(struct tmc_unit *unit, const uint8_t *packet, size_t n);
 

@@ -204,6 +204,16 @@ void host_sees_answers(void)
     printf("sees them answered: %s, %s\n", words_of(wire_arrived(0)), words_of(wire_arrived(1)));
 }
 
+void host_sends_over(uint8_t tag, const char *text, const char *old)
+{
+    uint8_t bytes[CONTROLLER_LARGEST];
+    size_t length = put_transfer(bytes, sizeof bytes, tag, 1, text);
+    size_t end = HEADER + strlen(text);
+
+    memcpy(bytes + end, old, length - end);
+    print_sent(", and old bytes behind it", tag, text, wire_event(EVENT_BULK_OUT, bytes, length).handshake);
+}
+
 void host_sends_damaged(uint8_t tag, const char *text)
 {
     uint8_t bytes[CONTROLLER_LARGEST];

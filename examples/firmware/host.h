@@ -26,6 +26,9 @@ void host_sends_and_asks_while_masked(uint8_t tag, const char *text, uint32_t si
 void host_sees_answer(void);
 void host_sees_answers(void);
 
+/* The same in one packet, from a buffer in which the three bytes `old` stand behind the text: those that align it are sent as they are. */
+void host_sends_over(uint8_t tag, const char *text, const char *old);
+
 /* The same with a tag and an inverse that do not fit. */
 void host_sends_damaged(uint8_t tag, const char *text);
 

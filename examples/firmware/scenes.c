@@ -171,6 +171,16 @@ static void setpoint_in_halves(void)
     ask(10, "SETP?\n");
 }
 
+static void old_bytes(void)
+{
+    scene("A bench of another maker leaves old bytes behind a command, up to a multiple of four: they are no part of it");
+    host_sends_over(12, "SETP 19.5\n", "75\n");
+    turns(1);
+    ask(13, "SETP?\n");
+    host_sends_over(15, "SETP 27.5\n", "19.");
+    turns(1);
+}
+
 static void fault(void)
 {
     scene("A half, a damaged packet, and the host's way back: the half is not joined to what comes next");
@@ -442,6 +452,7 @@ int main(int count, char **words)
     identity();
     setpoint();
     setpoint_in_halves();
+    old_bytes();
     fault();
     tellings();
     masked();

@@ -7,9 +7,10 @@
 
 const char *words_of_number(unsigned number)
 {
+    /* By place; 14 is free. */
     static const char *const names[] = {
-        "done",          "unsound",  "unconfigured", "wrong size",  "halted",     "wait",         "not in fours", "short header", "bad tag",
-        "unknown MsgID", "reserved", "wrong length", "too long",    "out of turn", "misaligned", "no row",       "not now"};
+        "done",          "unsound",  "unconfigured", "wrong size", "halted",      "wait", "not in fours", "short header", "bad tag",
+        "unknown MsgID", "reserved", "wrong length", "too long",   "out of turn", "?",    "no row",       "not now"};
 
     return number < sizeof names / sizeof names[0] ? names[number] : "?";
 }

@@ -26,7 +26,7 @@ model compare [--seed N] [--calls N] [--seconds N] [--cells] --program CMD..
                                sends the same traffic to a program and the model and compares every answer;
                                with --cells it shows how often each cell of the coverage was touched
 model faults [--seed N] [--scripts]
-                               tries whether the comparison finds each of five deliberate faults; with
+                               tries whether the comparison finds each of eight deliberate faults; with
                                --scripts it shows the script for each
 model traffic [--seed N] [--lines N]
                                writes the first lines of the traffic that `compare` sends, 200,000 of them
@@ -36,7 +36,7 @@ model one-by-one --program CMD..
 
 --seed, --calls, --seconds and --cells may also stand at the end, after the words of the program. Without --calls
 and --seconds a comparison has 1,000,000 calls. Faults: length-off-by-one, tag-kept-over-clear, half-kept-after-halt,
-kept-request-lost, packet-withdrawn.
+kept-request-lost, packet-withdrawn, alignment-refused, alignment-handed-over, tag-kept-over-alignment.
 Exit: 0 all is well, 1 there is a difference, an empty cell or an unsound unit, 2 the command cannot be carried out.
 ";
 

@@ -86,9 +86,17 @@ fn the_model_is_the_same_as_itself() {
 
 #[test]
 fn each_fault_is_found() {
-    for fault in
-        ["length-off-by-one", "tag-kept-over-clear", "half-kept-after-halt", "kept-request-lost", "packet-withdrawn"]
-    {
+    let faults = [
+        "length-off-by-one",
+        "tag-kept-over-clear",
+        "half-kept-after-halt",
+        "kept-request-lost",
+        "packet-withdrawn",
+        "alignment-refused",
+        "alignment-handed-over",
+        "tag-kept-over-alignment",
+    ];
+    for fault in faults {
         let output = model(&["compare", "--seconds", "60", "--program", MODEL, "play", "--fault", fault]);
         let told = text(&output.stdout);
         assert_eq!(output.status.code(), Some(1), "{fault}: {told}");
@@ -97,10 +105,10 @@ fn each_fault_is_found() {
     let output = model(&["faults"]);
     let told = text(&output.stdout);
     assert_eq!(output.status.code(), Some(0), "{told}");
-    assert_eq!(told.matches(": found in line ").count(), 5, "{told}");
+    assert_eq!(told.matches(": found in line ").count(), faults.len(), "{told}");
     assert!(!told.contains("#= "), "{told}");
     let told = text(&model(&["faults", "--scripts"]).stdout);
-    assert_eq!(told.matches("\npower ").count(), 5, "{told}");
+    assert_eq!(told.matches("\npower ").count(), faults.len(), "{told}");
 }
 
 /// A program that is no unit at all, and one that ends at once.
@@ -161,6 +169,31 @@ fn one_by_one_tells_what_a_program_answers() {
     let output = with_input(&["one-by-one", "--program", "cat"], b"# \xff\nstate \xfe\n");
     assert_eq!(output.status.code(), Some(0), "{}", text(&output.stderr));
     assert_eq!(output.stdout, b"# \xff\nstate \xfe\n");
+}
+
+/// 02, 2: 01's case a with old bytes in its padding. They move the tag and the remote/local state like any, and reach no
+/// message; one too few is 6, four too many are 11.
+#[test]
+fn alignment_bytes_may_be_anything() {
+    let case_a = |alignment: &str| format!("out 0101fe0006000000010000002a49444e3f0a{alignment}");
+    let state = |out: &str, message: &str| {
+        let before = format!("0 configured=1 ren=1 remote=REMS status=00 out={out} in=running");
+        format!("{before} message={message} reply=0 split=none owed=0 tags=01,00")
+    };
+    let script = [
+        ("setup 0009010000000000".to_string(), "0 -".to_string()),
+        ("setup a1a0010000000100".to_string(), "0 01".to_string()),
+        (case_a("a5ff"), "0".to_string()),
+        ("state".to_string(), state("running", "ready:6")),
+        ("take".to_string(), "0 2a49444e3f0a".to_string()),
+        (case_a("a5"), "6".to_string()),
+        ("setup 0201000001000000".to_string(), "0 -".to_string()),
+        (case_a("a5ffffffffff"), "11".to_string()),
+        ("state".to_string(), state("halted", "none")),
+    ];
+    let lines: String = script.iter().map(|(line, _)| format!("{line}\n")).collect();
+    let answers = text(&with_input(&["play"], lines.as_bytes()).stdout);
+    assert_eq!(answers.lines().collect::<Vec<_>>(), script.iter().map(|(_, answer)| answer).collect::<Vec<_>>());
 }
 
 /// Each ends with the usage line of its command, before a program is started: there is none of that name.

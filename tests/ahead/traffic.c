@@ -54,11 +54,13 @@ static uint32_t message_size(struct traffic *traffic)
 static void put_message(struct traffic *traffic)
 {
     uint32_t size = message_size(traffic);
+    uint32_t aligned = (size + 3) / 4 * 4;
 
     put_header(traffic, 1, size, one_in(&traffic->chance, 10) ? 0 : 1, 0);
     traffic->sent_tag = traffic->tag;
-    fill(&traffic->chance, traffic->transfer + HEADER, size);
-    traffic->length = HEADER + (size + 3) / 4 * 4;
+    /* Alignment bytes are zeros now and then, and else anything (02, request 2). */
+    fill(&traffic->chance, traffic->transfer + HEADER, one_in(&traffic->chance, 4) ? size : aligned);
+    traffic->length = HEADER + aligned;
 }
 
 static void put_request(struct traffic *traffic)

@@ -79,11 +79,14 @@ def read_status_byte(tag):
     return bytes([0xA1, 0x80, tag, 0, 0, 0, 3, 0])
 
 
-# Messages of USBTMC.
+# Messages of USBTMC. What a host leaves behind the data of a transfer, up to a multiple of four, may be anything.
+OLD_BYTES = b"7.5"
+
+
 def message(tag, text, size=None, is_end=True):
     """A transfer that carries a text, or a part of one."""
     header = struct.pack("<BBBBII", 1, tag, tag ^ 0xFF, 0, len(text) if size is None else size, is_end)
-    return header + text + bytes(-len(text) % 4)
+    return header + text + OLD_BYTES[: -len(text) % 4]
 
 
 def ask(tag, most=1024):

@@ -61,7 +61,7 @@ struct outcome {
 /* 1 to 5, 15 and 16 leave all unchanged, but for power-on. */
 static bool is_refusal(enum kind kind, unsigned number)
 {
-    return kind != POWER_ON && number != TMC_NUMBER_DONE && (number < TMC_NUMBER_NOT_IN_FOURS || number > TMC_NUMBER_MISALIGNED);
+    return kind != POWER_ON && number != TMC_NUMBER_DONE && (number < TMC_NUMBER_NOT_IN_FOURS || number >= TMC_NUMBER_NO_ROW);
 }
 
 /* Which of the askings the call is, as it was answered; ASKINGS where it is none. */

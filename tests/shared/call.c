@@ -120,13 +120,14 @@ static size_t up_to_four(size_t length)
     return (length + 3) / 4 * 4;
 }
 
-/* The packet that brings, behind `from` bytes, as much as it can of `left` data bytes and their alignment. */
-static void bring(const struct tmc_unit *unit, struct call *call, size_t from, size_t left)
+/* The packet that brings, behind `from` bytes, as much as it can of `left` data bytes and their alignment: zeros now and then, and else what
+   stands there, which may be anything (02, request 2). */
+static void bring(struct chance *chance, const struct tmc_unit *unit, struct call *call, size_t from, size_t left)
 {
     size_t whole = from + up_to_four(left);
 
     call->length = whole < unit->packet ? whole : unit->packet;
-    if (from + left < call->length)
+    if (from + left < call->length && one_in(chance, 4))
         memset(call->bytes + from + left, 0, call->length - from - left);
 }
 
@@ -170,7 +171,7 @@ static void make_header(struct chance *chance, const struct tmc_unit *unit, uint
         call->bytes[0] = 1;
         put_number(call->bytes + 4, size);
         call->bytes[8] = one_in(chance, 2) ? 1 : 0;
-        bring(unit, call, 12, size);
+        bring(chance, unit, call, 12, size);
     }
 }
 
@@ -181,7 +182,7 @@ static void make_good_bulk_out(struct chance *chance, const struct tmc_unit *uni
     uint32_t most = one_in(chance, 2) ? 80 : 600;
 
     if (unit->out_left != 0)
-        bring(unit, call, 0, unit->out_left);
+        bring(chance, unit, call, 0, unit->out_left);
     else
         make_header(chance, unit, 1 + below(chance, room == 0 ? 1 : room < most ? room : most), call);
 }
@@ -191,13 +192,11 @@ static void make_bulk_out(struct chance *chance, const struct tmc_unit *unit, st
     static const size_t lengths[] = {0, 4, 8, 12, 16, 60, 63, 64, 65, 508, 511, 512, 513, 1024, 1025};
 
     if (unit->out_left != 0)
-        bring(unit, call, 0, unit->out_left);
+        bring(chance, unit, call, 0, unit->out_left);
     else
         make_header(chance, unit, some_size(chance, unit), call);
     if (one_in(chance, 12))
         damage(chance, call, call->length < 12 ? 12 : call->length);
-    if (one_in(chance, 16))
-        call->bytes[call->length - 1] = 1; /* alignment, where there is some */
     if (one_in(chance, 16))
         call->length = one_in(chance, 2) ? call->length + 4 : call->length - 4;
     else if (one_in(chance, 12))
@@ -354,7 +353,7 @@ bool can_come(enum kind kind, unsigned number)
     static const uint32_t numbers[KINDS] = {
         1u << 0 | 1u << 3,                                   /* power_on */
         1u << 0 | 1u << 1 | 1u << 3 | 1u << 15,              /* setup */
-        (1u << 15) - 1,                                      /* bulk_out: 0 to 14 */
+        (1u << 14) - 1,                                      /* bulk_out: 0 to 13 */
         (1u << 6) - 1, (1u << 6) - 1,                        /* bulk_in, interrupt_in: 0 to 5 */
         (1u << 4) - 1 + (1u << 16),                          /* take: 0 to 3, 16 */
         (1u << 4) - 1 + (1u << 16),                          /* offer */

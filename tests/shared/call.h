@@ -8,7 +8,7 @@
 enum kind { POWER_ON, SETUP, BULK_OUT, BULK_IN, INTERRUPT_IN, TAKE, OFFER, SET_STATUS, PANEL, BUS_RESET, SUSPEND, KINDS };
 
 #define LONGEST 2048u /* bytes that a call reads, or is lent to write */
-#define NUMBERS 17u   /* 0 to 16 */
+#define NUMBERS 17u   /* 0 to 16, of which 14 is free */
 
 struct call {
     enum kind kind;
@@ -30,7 +30,7 @@ void make_traffic(struct chance *chance, const struct tmc_unit *unit, struct cal
 /* Calls the library. `input` has what the call reads, `buffer` is what it is lent. */
 struct tmc_answer perform(struct tmc_unit *unit, const struct call *call, const uint8_t *input, uint8_t *buffer);
 
-/* Whether the call can be answered with that number (document 01, "The first that applies decides"; 02, request 1). */
+/* Whether the call can be answered with that number (document 01, "The first that applies decides"; 02, requests 1 and 2). */
 bool can_come(enum kind kind, unsigned number);
 
 #endif

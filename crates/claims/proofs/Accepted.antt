@@ -6,19 +6,19 @@ use mathlib.Core.Path.{_≡_, refl, sym, ap, _∙_, subst}
 use mathlib.Core.List.{List, [], _∷_, _++_}
 use mathlib.Core.Logic.{_⊎_, inl, inr, ⊎-elim}
 use native.Mathlib.Omega.{arith}
-use lib.ListN.{length, take, drop, length-drop, drop-of-length-le}
-use lib.Seq.{drop-drop}
+use lib.ListN.{length, drop, length-drop, drop-of-length-le}
 use borrow.Author.Tests.{eqb-true, eqb-false, ltb-true, ltb-false}
 use Rattle.rules.specs.Choice.{_=ᵇ_, _<ᵇ_}
 use Rattle.rules.specs.When.{Not}
-use Rattle.wire.specs.When.{at, fourAt, Zeros, Commands, Requests, Triggers, ShortHeader, BadCommand, BadRequest, BadTrigger, Reserved}
+use Rattle.wire.specs.When.{at, fourAt, Commands, Requests, Triggers, ShortHeader, BadCommand, BadRequest, BadTrigger, Reserved}
+use Rattle.wire.proofs.Twelve.{twelve}
 use Rattle.port.specs.Device.{Device}
 use Rattle.port.specs.Step.{out-packet}
 use Rattle.port.specs.Trace.{Octets}
-use Rattle.port.specs.When.{OutHalted, MessageReady, padded, WrongLength, HeaderWrongLength, TooLong, OutOfTurn, Misaligned, ofHeader, ofMore, ofPacket, given}
+use Rattle.port.specs.When.{OutHalted, MessageReady, padded, WrongLength, HeaderWrongLength, TooLong, OutOfTurn, ofHeader, ofMore, ofPacket, given}
 use Rattle.port.proofs.KeepsOut.{cases}
-use Rattle.claims.specs.Command.{header, aligned, IsRequest, IsTrigger}
-use Rattle.claims.proofs.Cuts.{is-aligned, fours-fit}
+use Rattle.claims.specs.Command.{header, IsRequest, IsTrigger}
+use Rattle.claims.proofs.Cuts.{fours-fit}
 use Rattle.claims.proofs.Digits.{first, second, third, fourth}
 
 -- ** conditions that do not hold
@@ -34,26 +34,21 @@ not-less a b n = ⊎-elim (λ e. absurd (n (ltb-true a b e))) (λ e. ltb-false a
 equal : (m n : ℕ) → Not (Not (m ≡ n)) → m ≡ n
 equal m n h = ⊎-elim (λ e. eqb-true m n e) (λ e. absurd (h (eqb-false m n e))) (cases (m =ᵇ n))
 
-all-zeros : (s : List ℕ) → Not (Not (Zeros s)) → Zeros s
-all-zeros [] h = tt
-all-zeros (b ∷ s) h = (equal b 0 (λ n. h (λ z. n (z .0))), all-zeros s (λ n. h (λ z. n (z .1))))
-
 -- ** what is left of a transfer, in a packet with room for so much of it
 
 -- it is all here, with its alignment; or there is more to come, and the packet is full of data
 abbrev pub Lands : List ℕ → ℕ → ℕ → Type 0
-Lands t left room = ((length (take left t) ≡ left) × (t ≡ aligned (take left t))) ⊎ ((length t ≡ room) × (length t < left))
+Lands t left room = (length t ≡ padded left) ⊎ ((length t ≡ room) × (length t < left))
 
-lands : (t : List ℕ) (left room : ℕ) → room % 4 ≡ 0 → length t ≤ room → length t ≤ padded left → Not ((length t < padded left) × (length t < room)) → Zeros (drop left t)
-    → Lands t left room
-lands t left room fours fits most short z =
+lands : (t : List ℕ) (left room : ℕ) → room % 4 ≡ 0 → length t ≤ room → length t ≤ padded left → Not ((length t < padded left) × (length t < room)) → Lands t left room
+lands t left room fours fits most short =
     ⊎-elim
     (λ e.
     let less : length t < padded left = ltb-true _ _ e in
     let full : room ≤ length t = not-less (length t) room (λ l. short (less, l)) in
     let all : length t ≡ room = omega arith in
     inr (all, fours-fit left (length t) (ap (λ (n : ℕ). n % 4) all ∙ fours) less))
-    (λ e. let more : padded left ≤ length t = ltb-false _ _ e in inl (is-aligned t left (omega arith) z))
+    (λ e. let more : padded left ≤ length t = ltb-false _ _ e in inl (omega arith))
     (cases (length t <ᵇ padded left))
 
 -- ** twelve bytes
@@ -76,22 +71,6 @@ less-twelve n k m e l = omega arith
 -- of zeros at several places, that at one
 zero-at : {A : Type 0} (n : ℕ) → Not (Not A) → (A → n ≡ 0) → n ≡ 0
 zero-at n h one = equal n 0 (λ m. h (λ z. m (one z)))
-
-twelve : (s : List ℕ) → 12 ≤ length s
-    → s ≡ (at s 0 ∷ at s 1 ∷ at s 2 ∷ at s 3 ∷ at s 4 ∷ at s 5 ∷ at s 6 ∷ at s 7 ∷ at s 8 ∷ at s 9 ∷ at s 10 ∷ at s 11 ∷ []) ++ drop 12 s
-twelve (a ∷ b ∷ c ∷ d ∷ e ∷ f ∷ g ∷ h ∷ i ∷ j ∷ k ∷ l ∷ s) n = refl
-twelve [] n = absurd (omega arith)
-twelve (a ∷ []) n = absurd (omega arith)
-twelve (a ∷ b ∷ []) n = absurd (omega arith)
-twelve (a ∷ b ∷ c ∷ []) n = absurd (omega arith)
-twelve (a ∷ b ∷ c ∷ d ∷ []) n = absurd (omega arith)
-twelve (a ∷ b ∷ c ∷ d ∷ e ∷ []) n = absurd (omega arith)
-twelve (a ∷ b ∷ c ∷ d ∷ e ∷ f ∷ []) n = absurd (omega arith)
-twelve (a ∷ b ∷ c ∷ d ∷ e ∷ f ∷ g ∷ []) n = absurd (omega arith)
-twelve (a ∷ b ∷ c ∷ d ∷ e ∷ f ∷ g ∷ h ∷ []) n = absurd (omega arith)
-twelve (a ∷ b ∷ c ∷ d ∷ e ∷ f ∷ g ∷ h ∷ i ∷ []) n = absurd (omega arith)
-twelve (a ∷ b ∷ c ∷ d ∷ e ∷ f ∷ g ∷ h ∷ i ∷ j ∷ []) n = absurd (omega arith)
-twelve (a ∷ b ∷ c ∷ d ∷ e ∷ f ∷ g ∷ h ∷ i ∷ j ∷ k ∷ []) n = absurd (omega arith)
 
 -- ** a packet that is answered 0
 
@@ -119,8 +98,7 @@ module _ (u : Device) (s : List ℕ) (g : given u (out-packet s) 0) where
       by m =
           let a = unless (λ e. omega arith) m in
           let b = unless (λ e. omega arith) (a .1) in
-          let c = unless (λ e. omega arith) (b .1) in
-          lands s left P fours (gate .0) (not-less (padded left) (length s) (λ l. b .0 (inl l))) (λ l. b .0 (inr l)) (all-zeros (drop left s) (c .0))
+          lands s left P fours (gate .0) (not-less (padded left) (length s) (λ l. b .0 (inl l))) (λ l. b .0 (inr l))
 
   -- a header
   module _ (closed : left ≡ 0) (some : Not (length s ≡ 0)) where
@@ -136,7 +114,6 @@ module _ (u : Device) (s : List ℕ) (g : given u (out-packet s) 0) where
       pub in-turn : Not (OutOfTurn u s)
       pub room : Not (TooLong u s)
       pub right : Not (HeaderWrongLength u s)
-      pub clean : Not (Commands s × Misaligned s (12 + fourAt s 4))
 
     header-facts : Head
     header-facts =
@@ -148,7 +125,6 @@ module _ (u : Device) (s : List ℕ) (g : given u (out-packet s) 0) where
         let h = unless (λ e. omega arith) (f .1) in
         let i = unless (λ e. omega arith) (h .1) in
         let j = unless (λ e. omega arith) (i .1) in
-        let k = unless (λ e. omega arith) (j .1) in
         let fours = equal _ _ (a .0) in
         record {
           fours = fours;
@@ -159,7 +135,6 @@ module _ (u : Device) (s : List ℕ) (g : given u (out-packet s) 0) where
           in-turn = h .0;
           room = i .0;
           right = j .0;
-          clean = k .0;
         }
       where
         at-least : length s < 12 → length s % 4 ≡ 0 → Not (ShortHeader s) → ⊥
@@ -230,8 +205,7 @@ module _ (u : Device) (s : List ℕ) (g : given u (out-packet s) 0) where
             bytes = twelve s l
                 ∙ (λ i. (is i ∷ sym its-tag i ∷ inverse i ∷ e i ∷ b .0 i ∷ b .1 i ∷ b .2 i ∷ b .3 i ∷ sym its-end i ∷ zero-at (at s 9) z (λ y. y .0) i ∷ zero-at (at s 10) z
                 (λ y. y .1) i ∷ zero-at (at s 11) z (λ y. y .2) i ∷ []) ++ drop 12 s);
-            rest = lands (drop 12 s) size (P - 12) (omega arith) (omega arith) (less-twelve _ _ _ k (not-less _ _ (λ w. right (inl w)))) (λ w. right (inr (omega arith, omega arith)))
-                (all-zeros (drop size (drop 12 s)) (λ n. h .clean (is, λ y. n (subst Zeros (ap (λ (j : ℕ). drop (12 + j) s) (sym its-size) ∙ sym (drop-drop size 12 s)) y))));
+            rest = lands (drop 12 s) size (P - 12) (omega arith) (omega arith) (less-twelve _ _ _ k (not-less _ _ (λ w. right (inl w)))) (λ w. right (inr (omega arith, omega arith)));
           }
 
       pub requests : Requests s → IsRequest s

@@ -39,7 +39,6 @@ use Rattle.claims.specs.Wire.{Heard, nothing, accepted, broken-off, wipe
 use Rattle.claims.specs.Acted.{dueBehind, Triggering, Pulsing, Acts, Acting}
 use Rattle.claims.specs.Claims.{ActsOnlyOn, ActsOnlyOnEver}
 use Rattle.claims.proofs.Digits.{in-four}
-use Rattle.claims.proofs.Cuts.{aligned-long}
 use Rattle.claims.proofs.Packets.{Facts, outcome-facts, passing}
 use Rattle.claims.proofs.Accepted.{triggers}
 use Rattle.claims.proofs.Effects.{View, view, Taken, empty, other, all-at-once, begins, ends, goes-on, Effect}
@@ -73,13 +72,13 @@ due-taken w s x (other is closed none e) =
     ∙ sym (ap (λ (d : ℕ). dueAfter d s) closed
     ∙ due-closed s (⊎-elim (λ k z. let a : _≡_ {A = ℕ} 2 1 = ap (λ (l : List ℕ). at l 0) (sym (k .bytes)) ∙ z in omega arith)
     (λ k z. let a : _≡_ {A = ℕ} 128 1 = ap (λ (l : List ℕ). at l 0) (sym (k .bytes)) ∙ z in omega arith) is))
-due-taken w s x (all-at-once o d closed long is fits e) =
+due-taken w s x (all-at-once o closed long fits e) =
     ap (λ (v : View). v .left) e
     ∙ sym (ap (λ (k : ℕ). dueAfter k s) closed ∙ due-header s (o .tag) (o .size) (o .end) (drop 12 s) (let k = o .room in omega arith) (o .bytes)
-    ∙ (let a = ap length is ∙ aligned-long d in omega arith))
+    ∙ omega arith)
 due-taken w s x (begins o closed full less e) =
     ap (λ (v : View). v .left) e ∙ sym (ap (λ (k : ℕ). dueAfter k s) closed ∙ due-header s (o .tag) (o .size) (o .end) (drop 12 s) (let k = o .room in omega arith) (o .bytes))
-due-taken w s x (ends d opened long is fits e) = ap (λ (v : View). v .left) e ∙ sym (due-open (w .left) s opened ∙ (let a = ap length is ∙ aligned-long d in omega arith))
+due-taken w s x (ends opened long fits e) = ap (λ (v : View). v .left) e ∙ sym (due-open (w .left) s opened ∙ omega arith)
 due-taken w s x (goes-on opened full less e) = ap (λ (v : View). v .left) e ∙ sym (due-open (w .left) s opened)
 
 -- ** a call that is not answered 0

@@ -266,8 +266,10 @@ pub starts-following : (P : ℕ) (pieces : List Piece) → Sendable pieces → F
 starts-following P [] s = let k = s .some in absurd (omega arith)
 starts-following P (p ∷ ps) s = record {
   rest = [];
+  alignment = [];
   pieces = p ∷ ps;
   lacking = refl;
+  aligns = refl;
   good = s .good;
   mark-is = refl;
   fits = let k = s .fits in omega arith;

@@ -296,8 +296,7 @@ module _ (u : Device) (r : Reader) (stored : Stored u) (sound : isSound u ≡ tr
           let i = past (⊎-elim (λ z. msg (z .0)) (⊎-elim (λ z. reserved (z .1)) (λ z. let e = z .0 in omega arith))) f in
           let j = past (⊎-elim (λ z. z .1 (closed-line (r .line) (agreed .line) c)) (λ z. z .1 .1 (steady .unheld))) i in
           let l = past (λ z. msg (z .0)) j in
-          let m = past (⊎-elim (λ z. msg (z .0)) (λ z. z .1 refl)) l in
-          past (λ z. msg (z .0)) m
+          past (⊎-elim (λ z. msg (z .0)) (λ z. z .1 refl)) l
         where
           reserved : Not (BadRequest bytes)
           reserved (inl z) = z refl

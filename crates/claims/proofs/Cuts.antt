@@ -3,15 +3,14 @@
 use Prim.Native.Nat.{ℕ, zero, suc, _+_, _-_, _%_, _≤_, _<_}
 use mathlib.Core.Path.{_≡_, refl, sym, ap, ap₂, _∙_}
 use mathlib.Core.Bool.{true}
-use mathlib.Core.List.{List, [], _∷_, _++_, append-assoc}
+use mathlib.Core.List.{List, [], _∷_, _++_}
 use mathlib.Core.Logic.{_⊎_, ⊎-elim}
 use native.Mathlib.Omega.{arith}
-use lib.ListN.{length, take, drop, replicate, length-append, length-take, length-drop, length-replicate, take-append-drop, drop-of-length-le}
+use lib.ListN.{length, take, drop, length-append, length-take, length-drop, drop-of-length-le}
 use lib.Seq.{take-at, drop-at, take-all}
 use borrow.Author.Tests.{eqb-true}
-use Rattle.wire.specs.When.{Zeros}
 use Rattle.port.specs.When.{padded}
-use Rattle.claims.specs.Command.{aligned, cutUp, packets}
+use Rattle.claims.specs.Command.{Aligns, cutUp, packets}
 
 -- ** packets
 
@@ -54,29 +53,29 @@ packets-last size (x ∷ a) z e =
 
 -- ** data with its alignment
 
-pub aligned-long : (d : List ℕ) → length (aligned d) ≡ padded (length d)
-aligned-long d = length-append d (replicate ((4 - length d % 4) % 4) 0) ∙ ap (λ (k : ℕ). length d + k) (length-replicate {A = ℕ} ((4 - length d % 4) % 4) 0)
+pub aligned-long : (d a : List ℕ) → Aligns a d → length (d ++ a) ≡ padded (length d)
+aligned-long d a e = length-append d a ∙ ap (λ (k : ℕ). length d + k) e
 
 -- whole fours at the front need none
-pub aligned-more : (d e : List ℕ) → length d % 4 ≡ 0 → aligned (d ++ e) ≡ d ++ aligned e
-aligned-more d e f =
-    append-assoc d e _
-    ∙ ap (λ (k : ℕ). d ++ (e ++ replicate k 0)) (same (length d) (length e) (length (d ++ e)) f (length-append d e))
-  where
-    same : (m n k : ℕ) → m % 4 ≡ 0 → k ≡ m + n → (4 - k % 4) % 4 ≡ (4 - n % 4) % 4
-    same m n k f e = omega arith
+module _ (d e a : List ℕ) (fours : length d % 4 ≡ 0) where
+  same : (m n k : ℕ) → m % 4 ≡ 0 → k ≡ m + n → (4 - n % 4) % 4 ≡ (4 - k % 4) % 4
+  same m n k f e = omega arith
 
-zeros-are : (s : List ℕ) → Zeros s → s ≡ replicate (length s) 0
-zeros-are [] z = refl
-zeros-are (b ∷ s) z = ap₂ (λ (x : ℕ) (r : List ℕ). x ∷ r) (z .0) (zeros-are s (z .1))
+  needs : (4 - length e % 4) % 4 ≡ (4 - length (d ++ e) % 4) % 4
+  needs = same (length d) (length e) (length (d ++ e)) fours (length-append d e)
 
--- bytes of the right length, zeros behind the first `n`, are those with their alignment
-pub is-aligned : (s : List ℕ) (n : ℕ) → length s ≡ padded n → Zeros (drop n s) → (length (take n s) ≡ n) × (s ≡ aligned (take n s))
-is-aligned s n e z =
+  pub aligns-both : Aligns a e → Aligns a (d ++ e)
+  aligns-both k = k ∙ needs
+
+  pub aligns-behind : Aligns a (d ++ e) → Aligns a e
+  aligns-behind k = k ∙ sym needs
+
+-- bytes of the right length are data, and as many behind it as align it
+pub parted : (s : List ℕ) (n : ℕ) → length s ≡ padded n → (length (take n s) ≡ n) × Aligns (drop n s) (take n s)
+parted s n e =
     let k = length-take n s in
     let l : length (take n s) ≡ n = omega arith in
-    let r = length-drop n s in
-    (l, sym (take-append-drop n s) ∙ ap (λ (t : List ℕ). take n s ++ t) (zeros-are (drop n s) z ∙ ap (λ (j : ℕ). replicate j 0) (pads (length s) n (length (take n s)) (length (drop n s)) e l r)))
+    (l, pads (length s) n (length (take n s)) (length (drop n s)) e l (length-drop n s))
   where
     pads : (long n m left : ℕ) → long ≡ padded n → m ≡ n → left ≡ long - n → left ≡ (4 - m % 4) % 4
     pads long n m left e f g = omega arith

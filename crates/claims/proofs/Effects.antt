@@ -6,7 +6,7 @@ use mathlib.Core.Bool.{Bool}
 use mathlib.Core.List.{List, [], _++_}
 use mathlib.Core.Logic.{_⊎_}
 use native.Mathlib.Omega.{arith}
-use lib.ListN.{length, take, drop, length-take}
+use lib.ListN.{length, take, drop}
 use lib.Seq.{paste, take-paste, take-all}
 use borrow.Author.Tests.{eq-eqb, ne-eqb}
 use Rattle.rules.specs.When.{Not}
@@ -14,7 +14,8 @@ use Rattle.rules.proofs.Choice.{at-true, at-false}
 use Rattle.port.specs.Out.{absorbed}
 use Rattle.port.specs.Device.{Device, heldIn}
 use Rattle.port.specs.declared.types.BulkOut.{BulkOut}
-use Rattle.claims.specs.Command.{header, aligned, IsRequest, IsTrigger}
+use Rattle.port.specs.When.{padded}
+use Rattle.claims.specs.Command.{header, IsRequest, IsTrigger}
 use Rattle.claims.specs.Wire.{Heard, nothing, accepted, broken-off, wiped-out, handed-over}
 use Rattle.claims.proofs.Between.{Face, face}
 
@@ -65,10 +66,10 @@ pub data Taken (w : View) (s : List ℕ) (x : View) : Type 0 where
   empty : s ≡ [] → w .left ≡ 0 → x ≡ w → Taken w s x
   other : IsRequest s ⊎ IsTrigger s → w .left ≡ 0 → w .held ≡ [] → x ≡ w → Taken w s x
   -- a header, with all the data of its transfer or with as much as there is room for
-  all-at-once : (o : Opening w s) (d : List ℕ) → w .left ≡ 0 → length d ≡ o .size → drop 12 s ≡ aligned d → length s ≤ w .size → x ≡ holds w (w .held ++ d) 0 0 (o .end) → Taken w s x
+  all-at-once : (o : Opening w s) → w .left ≡ 0 → length (drop 12 s) ≡ padded (o .size) → length s ≤ w .size → x ≡ holds w (w .held ++ take (o .size) (drop 12 s)) 0 0 (o .end) → Taken w s x
   begins : (o : Opening w s) → w .left ≡ 0 → length s ≡ w .size → length (drop 12 s) < o .size → x ≡ holds w (w .held ++ drop 12 s) (o .size - length (drop 12 s)) (o .end) 0 → Taken w s x
   -- more of an open transfer: the rest, or as much as there is room for
-  ends : (d : List ℕ) → Not (w .left ≡ 0) → length d ≡ w .left → s ≡ aligned d → length s ≤ w .size → x ≡ holds w (w .held ++ d) 0 0 (w .end) → Taken w s x
+  ends : Not (w .left ≡ 0) → length s ≡ padded (w .left) → length s ≤ w .size → x ≡ holds w (w .held ++ take (w .left) s) 0 0 (w .end) → Taken w s x
   goes-on : Not (w .left ≡ 0) → length s ≡ w .size → length s < w .left → x ≡ holds w (w .held ++ s) (w .left - length s) (w .end) 0 → Taken w s x
 
 -- ** what anything does
@@ -122,10 +123,9 @@ module _ (o : BulkOut) (m t : List ℕ) (count size : ℕ) (configured : Bool) (
   held-now : take (o .message .held + count) store ≡ before .held ++ take count t
   held-now = take-paste m (o .message .held) t count (omega arith) (omega arith)
 
-  pub landed-whole : length (take left t) ≡ left → after ≡ holds before (before .held ++ take left t) 0 0 (o .transfer .end)
+  pub landed-whole : length t ≡ padded left → after ≡ holds before (before .held ++ take left t) 0 0 (o .transfer .end)
   unfolding absorbed
   landed-whole e =
-      let k = length-take left t in
       let all : count ≡ left = omega arith in
       ap (λ (q : BulkOut). viewOf (faceOf q store)) (at-true _ _ _ (eq-eqb left count (sym all)))
       ∙ (λ i. holds before ((held-now ∙ ap (λ (n : ℕ). before .held ++ take n t) all) i) 0 0 (o .transfer .end))

@@ -49,9 +49,9 @@ module _ (u : Device) (stored : Stored u) (sound : isSound u ≡ true) where
 taken-size : (w : View) (s : List ℕ) (x : View) → Taken w s x → x .size ≡ w .size
 taken-size w s x (empty _ _ e) = ap (λ (v : View). v .size) e
 taken-size w s x (other _ _ _ e) = ap (λ (v : View). v .size) e
-taken-size w s x (all-at-once _ _ _ _ _ _ e) = ap (λ (v : View). v .size) e
+taken-size w s x (all-at-once _ _ _ _ e) = ap (λ (v : View). v .size) e
 taken-size w s x (begins _ _ _ _ e) = ap (λ (v : View). v .size) e
-taken-size w s x (ends _ _ _ _ _ e) = ap (λ (v : View). v .size) e
+taken-size w s x (ends _ _ _ e) = ap (λ (v : View). v .size) e
 taken-size w s x (goes-on _ _ _ e) = ap (λ (v : View). v .size) e
 
 size-kept : (w : View) (h : Heard) (x : View) → Effect w h x → x .size ≡ w .size
@@ -125,8 +125,10 @@ module _ (u : Device) (stored : Stored u) (sound : isSound u ≡ true) where
       (nil (w .held) (eqb-true _ _ z)) closed (f .resting closed) r)
       (λ z. partly-from [] tt (record { unbroken = tt; packets = refl }) (λ q t k. record {
         rest = k .rest;
+        alignment = k .alignment;
         pieces = k .pieces;
         lacking = k .lacking;
+        aligns = k .aligns;
         good = k .good;
         end = k .mark-is ∙ sym (unmarked r);
         fits = let l = length-append (w .held) t in let n = k .fits in omega arith;
@@ -144,8 +146,10 @@ module _ (u : Device) (stored : Stored u) (sound : isSound u ≡ true) where
           unbroken = tt;
           rest = record {
             rest = [];
+            alignment = [];
             pieces = [];
             lacking = sym (f .closed r);
+            aligns = refl;
             good = tt;
             end = ended r;
             fits = f .fits;

@@ -6,14 +6,16 @@ use mathlib.Core.Path.{_≡_, refl, sym, ap, ap₂, _∙_, subst}
 use mathlib.Core.List.{List, [], _∷_, _++_, append-nil, append-assoc}
 use mathlib.Core.Logic.{_⊎_, inl, inr, ⊎-elim}
 use native.Mathlib.Omega.{arith}
-use lib.ListN.{length, drop, length-append, length-drop}
+use lib.ListN.{length, take, drop, length-append, length-drop}
 use Rattle.rules.specs.When.{Not}
 use Rattle.wire.specs.When.{at}
 use Rattle.port.specs.Trace.{Event}
-use Rattle.claims.specs.Command.{Piece, command, Good, header, mark, IsRequest, IsTrigger, Others}
+use Rattle.port.specs.When.{padded}
+use Rattle.claims.specs.Command.{Piece, command, Good, mark, IsRequest, IsTrigger, Others}
 use Rattle.claims.specs.Wire.{Heard, nothing, accepted, broken-off, wiped-out, handed-over, heardOf, acceptedOf}
 use Rattle.claims.specs.Wire.{acceptedIn, Passes, Unbroken, Spares, Waits, Divides, Divided}
 use Rattle.claims.specs.Handed.{Whole, Brought, Begun, Rest, Finished, Allowed}
+use Rattle.claims.proofs.Cuts.{parted}
 use Rattle.claims.proofs.Effects.{View, Taken, empty, other, all-at-once, begins, ends, goes-on, Broken, Handed, Effect}
 use Rattle.claims.proofs.Follows.{Follows, nothing-left, between, one-more-empty, header-whole, header-part, data-whole, data-part}
 
@@ -97,6 +99,10 @@ module _ (P : ℕ) (w : View) (s : List ℕ) (same : w .size ≡ P) (big : 16 �
   added : (d : List ℕ) → length (w .held ++ d) ≡ length (w .held) + length d
   added d = length-append (w .held) d
 
+  -- all the data of a transfer
+  behind : (n : ℕ) (r : List ℕ) → length r ≡ padded n → length (w .held ++ take n r) ≡ length (w .held) + n
+  behind n r long = added (take n r) ∙ ap (λ (k : ℕ). length (w .held) + k) (parted r n long .0)
+
   -- a packet that brings nothing: it is empty, or no part of a command
   pub record Brings-nothing (x : View) : Type 0 where
     pub same-view : x ≡ w
@@ -106,15 +112,14 @@ module _ (P : ℕ) (w : View) (s : List ℕ) (same : w .size ≡ P) (big : 16 �
   pub further : (x : View) → Taken w s x → Further P w s x ⊎ Brings-nothing x
   further x (empty is closed e) = inr (record { same-view = e; closed = closed; what = inl is })
   further x (other is closed none e) = inr (record { same-view = e; closed = closed; what = inr (is, none) })
-  further x (all-at-once o d closed long is fits e) = inl (like x _ e (record {
-    came = d;
-    some = let k = o .size-some in omega arith;
+  further x (all-at-once o closed long fits e) = inl (like x _ e (record {
+    came = take (o .size) (drop 12 s);
+    some = let k = o .size-some in let m = parted (drop 12 s) (o .size) long .0 in omega arith;
     opens = inl (ap (λ (l : List ℕ). at l 0) (o .bytes));
     held = refl;
-    ahead = λ q t f. follows-as P 0 _ 0 _ _ _ (s ∷ q) (d ++ t) (sym closed) (sym (resting closed)) refl
-        (header-whole P (o .end) s d q t (length (w .held)) (o .tag) (o .tag-some) (o .tag-fits) (let k = o .size-some in omega arith)
-        (o .bytes ∙ (λ i. header (o .tag) (sym long i) (o .end) ++ is i)) (omega arith)
-        (follows-as P _ 0 _ (o .end) _ _ q t refl (omega arith) (added d) f));
+    ahead = λ q t f. follows-as P 0 _ 0 _ _ _ (s ∷ q) _ (sym closed) (sym (resting closed)) refl
+        (header-whole P (o .end) (length (w .held)) (o .tag) (o .size) s (drop 12 s) q t (o .tag-some) (o .tag-fits) (o .size-some) (o .bytes) long (omega arith)
+        (follows-as P _ 0 _ (o .end) _ _ q t refl (omega arith) (behind (o .size) (drop 12 s) long) f));
   }))
   further x (begins o closed full less e) = inl (like x _ e (record {
     came = drop 12 s;
@@ -122,17 +127,16 @@ module _ (P : ℕ) (w : View) (s : List ℕ) (same : w .size ≡ P) (big : 16 �
     opens = inl (ap (λ (l : List ℕ). at l 0) (o .bytes));
     held = refl;
     ahead = λ q t f. let l = length-drop 12 s in follows-as P 0 _ 0 _ _ _ (s ∷ q) (drop 12 s ++ t) (sym closed) (sym (resting closed)) refl
-        (header-part P (o .end) s (drop 12 s) q t (length (w .held)) (o .tag) (o .size) (omega arith) (o .tag-some) (o .tag-fits) (omega arith) less (o .bytes) (omega arith)
+        (header-part P (o .end) (length (w .held)) (o .tag) (o .size) s (drop 12 s) q t (omega arith) (o .tag-some) (o .tag-fits) (omega arith) less (o .bytes) (omega arith)
         (follows-as P _ _ _ (o .end) _ _ q t refl (omega arith) (added (drop 12 s)) f));
   }))
-  further x (ends d opened long is fits e) = inl (like x _ e (record {
-    came = d;
-    some = omega arith;
+  further x (ends opened long fits e) = inl (like x _ e (record {
+    came = take (w .left) s;
+    some = let m = parted s (w .left) long .0 in omega arith;
     opens = inr opened;
     held = refl;
-    ahead = λ q t f. follows-as P (length d) _ (w .end) _ _ _ (s ∷ q) (d ++ t) long refl refl
-        (data-whole P (w .end) s d q t (length (w .held)) (omega arith) is (omega arith)
-        (follows-as P _ 0 _ (w .end) _ _ q t refl (omega arith) (added d) f));
+    ahead = λ q t f. data-whole P (w .left) (w .end) (length (w .held)) s q t (omega arith) long (omega arith)
+        (follows-as P _ 0 _ (w .end) _ _ q t refl (omega arith) (behind (w .left) s long) f);
   }))
   further x (goes-on opened full less e) = inl (like x _ e (record {
     came = s;

@@ -5,17 +5,15 @@ use mathlib.Core.Path.{_≡_, refl, sym, ap, _∙_, subst}
 use mathlib.Core.List.{List, [], _∷_, _++_, append-nil, append-assoc}
 use mathlib.Core.Logic.{⊎-elim}
 use native.Mathlib.Omega.{arith}
-use lib.ListN.{length, take, drop, replicate, length-append}
-use lib.Seq.{take-at}
+use lib.ListN.{length, take, drop, length-append, length-take}
 use borrow.Author.Tests.{eqb-true, eqb-false, eq-eqb, ne-eqb, lt-ltb, le-ltb}
 use Rattle.rules.specs.Choice.{_=ᵇ_, _<ᵇ_, pick}
 use Rattle.rules.specs.When.{Not}
 use Rattle.rules.proofs.Choice.{at-true, at-false}
 use Rattle.wire.specs.When.{at, fourAt}
 use Rattle.port.proofs.KeepsOut.{cases}
-use Rattle.claims.specs.Command.{Piece, command, header, aligned, mark, sending}
+use Rattle.claims.specs.Command.{Piece, command, header, mark, sending}
 use Rattle.claims.proofs.Digits.{in-four}
-use Rattle.claims.proofs.Cuts.{aligned-long}
 use Rattle.claims.proofs.Effects.{View, holds, Taken, empty, other, all-at-once, begins, ends, goes-on}
 use Rattle.claims.proofs.Follows.{Follows, between}
 use Rattle.claims.proofs.First.{Bit, all, some, First, an-empty, a-header, more}
@@ -28,11 +26,8 @@ unfoldable pub landing : View → List ℕ → View
 landing w s = pick (w .left =ᵇ 0) (pick (at s 0 =ᵇ 1) (landed w (fourAt s 4) (at s 8) (drop 12 s)) w) (landed w (w .left) (w .end) s)
 
 module _ (w : View) where
-  landed-all : (left end : ℕ) (d : List ℕ) → length d ≡ left → landed w left end (aligned d) ≡ holds w (w .held ++ d) 0 0 end
-  landed-all left end d long =
-      let a = aligned-long d in
-      at-false _ _ _ (le-ltb (length (aligned d)) left (omega arith))
-      ∙ ap (λ (l : List ℕ). holds w (w .held ++ l) 0 0 end) (take-at d (replicate ((4 - length d % 4) % 4) 0) left long)
+  landed-all : (left end : ℕ) (r : List ℕ) → left ≤ length r → landed w left end r ≡ holds w (w .held ++ take left r) 0 0 end
+  landed-all left end r enough = at-false _ _ _ (le-ltb (length r) left enough)
 
   landed-some : (left end : ℕ) (r : List ℕ) → length r < left → landed w left end r ≡ holds w (w .held ++ r) (left - length r) end 0
   landed-some left end r less = at-true _ _ _ (lt-ltb (length r) left less)
@@ -59,11 +54,11 @@ module _ (w : View) where
     taken-landing x (other is closed none e) =
         e ∙ sym (at-other closed (⊎-elim (λ k z. let a : _≡_ {A = ℕ} 2 1 = ap (λ (l : List ℕ). at l 0) (sym (k .bytes)) ∙ z in omega arith)
         (λ k z. let a : _≡_ {A = ℕ} 128 1 = ap (λ (l : List ℕ). at l 0) (sym (k .bytes)) ∙ z in omega arith) is))
-    taken-landing x (all-at-once o d closed long is fits e) =
-        e ∙ sym (at-header closed (o .tag) (o .size) (o .end) (drop 12 s) (let k = o .room in omega arith) (o .bytes) ∙ ap (landed w (o .size) (o .end)) is ∙ landed-all (o .size) (o .end) d long)
+    taken-landing x (all-at-once o closed long fits e) =
+        e ∙ sym (at-header closed (o .tag) (o .size) (o .end) (drop 12 s) (let k = o .room in omega arith) (o .bytes) ∙ landed-all (o .size) (o .end) (drop 12 s) (omega arith))
     taken-landing x (begins o closed full less e) =
         e ∙ sym (at-header closed (o .tag) (o .size) (o .end) (drop 12 s) (let k = o .room in omega arith) (o .bytes) ∙ landed-some (o .size) (o .end) (drop 12 s) less)
-    taken-landing x (ends d opened long is fits e) = e ∙ sym (at-more opened ∙ ap (landed w (w .left) (w .end)) is ∙ landed-all (w .left) (w .end) d long)
+    taken-landing x (ends opened long fits e) = e ∙ sym (at-more opened ∙ landed-all (w .left) (w .end) s (omega arith))
     taken-landing x (goes-on opened full less e) = e ∙ sym (at-more opened ∙ landed-some (w .left) (w .end) s less)
 
 -- ** how far a command is: packets `q` are to come, and with them the rest of `m`; or it is all here
@@ -101,8 +96,9 @@ module _ (P : ℕ) (w : View) (q : List (List ℕ)) (m : List ℕ) where
       (append-assoc (w .held) r t′ ∙ ap (λ (l : List ℕ). w .held ++ l) (sym is) ∙ whole)
 
   stand-bit : (room left end : ℕ) (r t : List ℕ) → end ≤ 1 → w .held ++ t ≡ m → Bit P room left end (length (w .held)) r q t → Stand P (landed w left end r) q m
-  stand-bit room left end r t flag whole (all d t′ long is fits e f) =
-      subst (λ (v : View). Stand P v q m) (sym (ap (landed w left end) is ∙ landed-all w left end d long)) (stand-all left end d t t′ flag long whole e f)
+  stand-bit room left end r t flag whole (all t′ long fits e f) =
+      let k = length-take left r in
+      subst (λ (v : View). Stand P v q m) (sym (landed-all w left end r (omega arith))) (stand-all left end (take left r) t t′ flag (omega arith) whole e f)
   stand-bit room left end r t flag whole (some t′ full less e f) = subst (λ (v : View). Stand P v q m) (sym (landed-some w left end r less)) (stand-some left end r t t′ whole e f)
 
   -- behind the first of the packets that are to come

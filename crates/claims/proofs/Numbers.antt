@@ -1,23 +1,21 @@
 -- The first packet of those that are to come is answered 0, since no condition of another number holds (RuleForEvery); and any packet 5 while a message is ready.
 -- Assumes nothing.
-use Prim.Native.Nat.{ℕ, zero, suc, _+_, _-_, _%_, _≤_, _<_}
+use Prim.Native.Nat.{ℕ, _+_, _-_, _%_, _≤_, _<_}
 use mathlib.Core.Path.{_≡_, refl, sym, ap, _∙_, subst}
 use mathlib.Core.Bool.{true, true≢false}
 use mathlib.Core.List.{List, _++_}
 use mathlib.Core.Logic.{_⊎_, inl, inr, ⊎-elim}
 use native.Mathlib.Omega.{arith}
-use lib.ListN.{length, drop, replicate, drop-of-length-le}
-use lib.Seq.{drop-at, drop-append-add}
+use lib.ListN.{length}
 use borrow.Author.Tests.{eqb-true}
 use Rattle.rules.specs.When.{Not}
-use Rattle.wire.specs.When.{at, fourAt, Zeros, Requests, Triggers, BadCommand}
+use Rattle.wire.specs.When.{at, fourAt, Requests, Triggers, BadCommand}
 use Rattle.port.specs.Parts.{isConfigured}
 use Rattle.port.specs.Device.{Device, isSound}
 use Rattle.port.specs.Step.{out-packet}
 use Rattle.port.specs.When.{padded, WrongLength, ofHeader, ofMore, ofPacket, given}
 use Rattle.claims.specs.Command.{header}
 use Rattle.claims.proofs.Digits.{in-four}
-use Rattle.claims.proofs.Cuts.{aligned-long}
 use Rattle.claims.proofs.First.{Bit, all, some, First, an-empty, a-header, more}
 
 -- a condition that does not hold is passed by
@@ -25,34 +23,24 @@ pub skip : {m n : ℕ} {G B : Type 0} → ((n ≡ m) × G) ⊎ (Not G × B) → 
 skip (inl x) n = absurd (n (x .1))
 skip (inr x) n = x .1
 
--- zeros behind the data
-zeros : (n : ℕ) → Zeros (replicate n 0)
-zeros zero = tt
-zeros (suc n) = (refl, zeros n)
-
--- what a packet has of a transfer has the right length, and nothing but zeros behind the data
+-- what a packet has of a transfer has the right length
 record Right (r : List ℕ) (left room : ℕ) : Type 0 where
   fours : length r % 4 ≡ 0
   most : length r ≤ padded left
   full : Not ((length r < padded left) × (length r < room))
-  clean : Zeros (drop left r)
   fits : length r ≤ room
 
 right : (P room left end k : ℕ) (r : List ℕ) (q : List (List ℕ)) (t : List ℕ) → room % 4 ≡ 0 → Bit P room left end k r q t → Right r left room
-right P room left end k r q t fours (all d t′ long is fits e f) =
-    let a = ap length is ∙ aligned-long d in
-    record {
-      fours = omega arith;
-      most = omega arith;
-      full = λ l. let b = l .0 in omega arith;
-      clean = subst (λ (l : List ℕ). Zeros (drop left l)) (sym is) (subst Zeros (sym (drop-at d (replicate ((4 - length d % 4) % 4) 0) left long)) (zeros ((4 - length d % 4) % 4)));
-      fits = fits;
-    }
+right P room left end k r q t fours (all t′ long fits e f) = record {
+  fours = omega arith;
+  most = omega arith;
+  full = λ l. let b = l .0 in omega arith;
+  fits = fits;
+}
 right P room left end k r q t fours (some t′ full less e f) = record {
   fours = omega arith;
   most = omega arith;
   full = λ l. let b = l .1 in omega arith;
-  clean = subst Zeros (sym (drop-of-length-le r {i = left} (omega arith))) tt;
   fits = omega arith;
 }
 
@@ -91,8 +79,7 @@ module _ (u : Device) (s : List ℕ) (n : ℕ) (g : given u (out-packet s) n) (s
         by : ofMore u s n → n ≡ 0
         by m =
             let a = skip m (λ e. e (r .fours)) in
-            let b = skip a (⊎-elim (λ l. let k = r .most in omega arith) (λ l. r .full l)) in
-            skip b (λ e. e (r .clean))
+            skip a (⊎-elim (λ l. let k = r .most in omega arith) (λ l. r .full l))
 
     module _ (tag size end : ℕ) (behind : List ℕ) (is : s ≡ header tag size end ++ behind) (tag-some : 1 ≤ tag) (size-some : 1 ≤ size) (flag : end ≤ 1) (room : held + size ≤ 1024)
         (big : 16 ≤ P) (r : Right behind size (P - 12)) where
@@ -130,9 +117,6 @@ module _ (u : Device) (s : List ℕ) (n : ℕ) (g : given u (out-packet s) n) (s
           by (inl l) = let k = long in let m = r .most in omega arith
           by (inr l) = let k = long in let a = l .0 in let b = l .1 in r .full (omega arith, omega arith)
 
-      aligned-clean : Zeros (drop (12 + fourAt s 4) s)
-      aligned-clean = subst Zeros (sym (ap (λ (k : ℕ). drop (12 + k) s) its-size ∙ ap (drop (12 + size)) is ∙ drop-append-add (header tag size end) behind size)) (r .clean)
-
       header-done : left ≡ 0 → n ≡ 0
       header-done closed = by (⊎-elim (λ k. absurd (k .0 closed)) (λ k. ⊎-elim (λ l. let e = long in let z = l .1 in absurd (omega arith)) (λ l. l .2) k) packet-rules)
         where
@@ -146,8 +130,7 @@ module _ (u : Device) (s : List ℕ) (n : ℕ) (g : given u (out-packet s) n) (s
               let f = skip d (⊎-elim (λ e. good (e .1)) (⊎-elim (λ e. no-request (e .0)) (λ e. no-trigger (e .0)))) in
               let i = skip f (⊎-elim (λ e. no-request (e .0)) (λ e. ⊎-elim no-request no-trigger (e .0))) in
               let j = skip i (λ e. let z = its-size in let k = e .1 in omega arith) in
-              let m = skip j (⊎-elim (λ e. right-length (e .1)) (λ e. ⊎-elim no-request no-trigger (e .0))) in
-              skip m (λ e. e .1 aligned-clean)
+              skip j (⊎-elim (λ e. right-length (e .1)) (λ e. ⊎-elim no-request no-trigger (e .0)))
 
     -- the first of the packets that are to come
     pub first-done : (end k : ℕ) (q : List (List ℕ)) (t : List ℕ) → P % 4 ≡ 0 → 16 ≤ P → held ≡ k → First P left end k s q t → n ≡ 0

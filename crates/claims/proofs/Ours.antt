@@ -1,6 +1,7 @@
 -- All that is claimed, of our port.
 -- Assumes nothing.
 use Rattle.port.specs.Step.{step}
+use Rattle.port.proofs.Alignment.{alignment-ignored}
 use Rattle.port.proofs.Clearing.{clear-reached, clear-reached-polled, clear-reached-halted, survive}
 use Rattle.port.proofs.Replies.{replies-read}
 use Rattle.port.proofs.Service.{status-told}
@@ -32,6 +33,7 @@ ours = record {
   clean-after-any-fault = clean-after-any-fault;
   command-after-clear = command-after-clear;
   rule-for-every = rule-for-every;
+  alignment-ignored = alignment-ignored;
   replies-read = replies-read;
   read-back = read-back;
   reply-arrives = reply-arrives;

@@ -9,7 +9,7 @@ use lib.ListN.{length}
 use borrow.Author.Tests.{eqb-true, eqb-false}
 use Rattle.rules.specs.Choice.{_=ᵇ_, _<ᵇ_, decide}
 use Rattle.rules.specs.Answers.{DONE, UNCONFIGURED, WRONG-SIZE, HALTED, WAIT, NOT-IN-FOURS, SHORT-HEADER, BAD-TAG}
-use Rattle.rules.specs.Answers.{UNKNOWN-MSGID, RESERVED, WRONG-LENGTH, TOO-LONG, OUT-OF-TURN, MISALIGNED}
+use Rattle.rules.specs.Answers.{UNKNOWN-MSGID, RESERVED, WRONG-LENGTH, TOO-LONG, OUT-OF-TURN}
 use Rattle.rules.proofs.Choice.{pick-all, decide-all, at-true, at-false, and-left, and-both, neb-ne, neb-eq}
 use Rattle.wire.specs.Header.{HEADER, DEV-DEP-MSG-OUT, REQUEST-DEV-DEP-MSG-IN, MsgID, messageRules, requestRules}
 use Rattle.wire.specs.Header.{triggerRules, readingRules, readMessage, readRequest, readTrigger, readHeader}
@@ -34,7 +34,7 @@ module _ (s : List ℕ) where
   unfolding heardPacket
   keeping n e f = at-false _ _ _ e ∙ at-false _ _ _ (and-left _ _ f)
 
-  halting : (n : ℕ) → (n =ᵇ 0) ≡ false → (5 <ᵇ n) ≡ true → (n <ᵇ 15) ≡ true → heardPacket s n ≡ broken-off
+  halting : (n : ℕ) → (n =ᵇ 0) ≡ false → (5 <ᵇ n) ≡ true → (n <ᵇ 14) ≡ true → heardPacket s n ≡ broken-off
   unfolding heardPacket
   halting n e f g = at-false _ _ _ e ∙ at-true _ _ _ (and-both _ _ f g)
 
@@ -67,7 +67,7 @@ module _ (st : State) (s : List ℕ) where
   unfolding more
   more-facts e =
       decide-all (Facts st s) Halt (moreRules (packetSize st) (outOf st .transfer .left) s) _
-      (halting s NOT-IN-FOURS refl refl refl, (halting s WRONG-LENGTH refl refl refl, (halting s MISALIGNED refl refl refl, tt)))
+      (halting s NOT-IN-FOURS refl refl refl, (halting s WRONG-LENGTH refl refl refl, tt))
       (λ _. (e, refl))
 
   header-facts : outOf st .transfer .left ≡ 0 → (length s ≡ 0 → ⊥) → (r : Read) → readHeader s ≡ r → Reads s r → Facts st s (headerSays st s r)
@@ -76,7 +76,7 @@ module _ (st : State) (s : List ℕ) where
   header-facts e some (Good h) is k =
       decide-all (Facts st s) Halt (headerRules st s h) _ (
         halting s OUT-OF-TURN refl refl refl,
-        (halting s TOO-LONG refl refl refl, (halting s WRONG-LENGTH refl refl refl, (halting s MISALIGNED refl refl refl, tt))),
+        (halting s TOO-LONG refl refl refl, (halting s WRONG-LENGTH refl refl refl, tt)),
       )
       (λ _. (e, some, refl, is))
 

@@ -7,23 +7,21 @@ use mathlib.Core.Bool.{Bool, true, false}
 use mathlib.Core.List.{List, [], _∷_, _++_, nil≢cons}
 use mathlib.Core.Logic.{_⊎_, inl, inr, ⊎-elim}
 use native.Mathlib.Omega.{arith}
-use lib.ListN.{length, take, drop, replicate, length-append, drop-of-length-le}
+use lib.ListN.{length, take, drop, replicate, length-append}
 use lib.Seq.{take-at, drop-at, take-all}
 use borrow.Author.Tests.{eqb-true, eqb-false, eq-eqb, ne-eqb, lt-ltb, le-ltb, le-leb}
 use Rattle.rules.specs.Choice.{_=ᵇ_, _<ᵇ_, _≤ᵇ_, pick, _or_, _and_}
 use Rattle.rules.specs.When.{Not}
 use Rattle.rules.proofs.Choice.{pick-all, at-true, at-false, or-left, or-right, and-both}
-use Rattle.wire.specs.Bytes.{allZero}
 use Rattle.wire.specs.When.{at, fourAt}
 use Rattle.port.specs.When.{padded}
-use Rattle.claims.specs.Command.{Piece, command, header, aligned, packets, mark, sending, IsRequest, IsTrigger, Others}
+use Rattle.claims.specs.Command.{Piece, command, header, packets, mark, sending, IsRequest, IsTrigger, Others}
 use Rattle.port.specs.Trace.{Event}
 use Rattle.port.proofs.KeepsOut.{cases}
 use Rattle.claims.specs.Wire.{Heard, nothing, accepted, broken-off, wiped-out, handed-over, heardOf}
 use Rattle.claims.specs.Wire.{acceptedIn, Passes, Unbroken, Spares, Waits, Divides, Divided}
 use Rattle.claims.specs.Handed.{Whole, Brought}
 use Rattle.claims.proofs.Digits.{in-four}
-use Rattle.claims.proofs.Cuts.{aligned-long}
 use Rattle.claims.proofs.Follows.{Follows, between}
 use Rattle.claims.proofs.First.{Bit, all, some, First, an-empty, a-header, more, first-packet, something-ahead}
 use Rattle.claims.proofs.Arrives.{starts-following}
@@ -35,12 +33,12 @@ abbrev isHeader : List ℕ → Bool
 isHeader s =
     0 <ᵇ at s 1 and at s 2 =ᵇ 255 - at s 1 and at s 3 =ᵇ 0 and 0 <ᵇ fourAt s 4 and at s 8 ≤ᵇ 1 and at s 9 =ᵇ 0 and at s 10 =ᵇ 0 and at s 11 =ᵇ 0
 
--- a packet has all that is left of a transfer, or is full; and behind the data there are zeros
+-- a packet has all that is left of a transfer, or is full
 abbrev isMore : ℕ → ℕ → List ℕ → Bool
-isMore P left s = length s =ᵇ min P (padded left) and allZero (drop left s)
+isMore P left s = length s =ᵇ min P (padded left)
 
 abbrev isFirst : ℕ → ℕ → List ℕ → Bool
-isFirst P end s = end =ᵇ 0 and at s 0 =ᵇ 1 and isHeader s and length s =ᵇ min P (12 + padded (fourAt s 4)) and allZero (drop (fourAt s 4) (drop 12 s))
+isFirst P end s = end =ᵇ 0 and at s 0 =ᵇ 1 and isHeader s and length s =ᵇ min P (12 + padded (fourAt s 4))
 
 -- what is read of the packets, and whether it is all as it should be: `left` bytes are to come of the open transfer, which is marked by `end`
 abbrev Read : Type 0
@@ -80,19 +78,15 @@ skipped (s ∷ q) = pick (at s 0 =ᵇ 1) (s ∷ q) (skipped q)
 -- ** a command is read back
 
 module _ (P : ℕ) (fours : P % 4 ≡ 0) (big : 16 ≤ P) where
-  zeros-clean : (n : ℕ) → allZero (replicate n 0) ≡ true
-  zeros-clean zero = refl
-  zeros-clean (suc n) = zeros-clean n
-
   -- with no packet to come, nothing is
   none-ahead : (left end n : ℕ) (t : List ℕ) → Follows P left end n [] t → (left ≡ 0) × (end ≡ 1) × (t ≡ [])
   unfolding sending
-  none-ahead left end n t f = by (f .rest) (f .pieces) (f .lacking) (f .mark-is) (f .packets-are) (f .data-are)
+  none-ahead left end n t f = by (f .rest) (f .pieces) (f .lacking) (f .mark-is) (f .data-are)
     where
-      by : (r : List ℕ) (ps : List Piece) → length r ≡ left → mark ps ≡ end → [] ≡ packets P (aligned r) ++ sending P ps → t ≡ r ++ command ps → (left ≡ 0) × (end ≡ 1) × (t ≡ [])
-      by [] [] long m e d = (sym long, sym m, d)
-      by [] (p ∷ ps) long m e d = absurd (something-ahead P fours big left end n t (λ _. sym m) f)
-      by (b ∷ r) ps long m e d = absurd (something-ahead P fours big left end n t (λ z. absurd (omega arith)) f)
+      by : (r : List ℕ) (ps : List Piece) → length r ≡ left → mark ps ≡ end → t ≡ r ++ command ps → (left ≡ 0) × (end ≡ 1) × (t ≡ [])
+      by [] [] long m d = (sym long, sym m, d)
+      by [] (p ∷ ps) long m d = absurd (something-ahead P fours big left end n t (λ _. sym m) f)
+      by (b ∷ r) ps long m d = absurd (something-ahead P fours big left end n t (λ z. absurd (omega arith)) f)
 
   -- and with one, the message has not ended
   not-ended : (end n : ℕ) (s : List ℕ) (q : List (List ℕ)) (t : List ℕ) → Follows P 0 end n (s ∷ q) t → end ≡ 0
@@ -105,26 +99,21 @@ module _ (P : ℕ) (fours : P % 4 ≡ 0) (big : 16 ≤ P) where
 
   pub record BitRead (room left end : ℕ) (r : List ℕ) (q : List (List ℕ)) (t : List ℕ) : Type 0 where
     pub full-length : length r ≡ min room (padded left)
-    pub clean : allZero (drop left r) ≡ true
     pub rest : List ℕ
     pub held : ℕ
     pub is : t ≡ take left r ++ rest
     pub follows : Follows P (left - length r) end held q rest
 
   bit-reads : (room left end n : ℕ) (r : List ℕ) (q : List (List ℕ)) (t : List ℕ) → Bit P room left end n r q t → BitRead room left end r q t
-  bit-reads room left end n r q t (all d t′ long is fits e f) =
-      let a = ap length is ∙ aligned-long d in
-      record {
-        full-length = omega arith;
-        clean = ap (λ (l : List ℕ). allZero (drop left l)) is ∙ ap allZero (drop-at d (replicate ((4 - length d % 4) % 4) 0) left long) ∙ zeros-clean ((4 - length d % 4) % 4);
-        rest = t′;
-        held = n + left;
-        is = e ∙ ap (λ (l : List ℕ). l ++ t′) (sym (ap (take left) is ∙ take-at d (replicate ((4 - length d % 4) % 4) 0) left long));
-        follows = subst (λ (k : ℕ). Follows P k end (n + left) q t′) (omega arith) f;
-      }
+  bit-reads room left end n r q t (all t′ long fits e f) = record {
+    full-length = omega arith;
+    rest = t′;
+    held = n + left;
+    is = e;
+    follows = subst (λ (k : ℕ). Follows P k end (n + left) q t′) (omega arith) f;
+  }
   bit-reads room left end n r q t (some t′ full less e f) = record {
     full-length = omega arith;
-    clean = ap allZero (drop-of-length-le r {i = left} (omega arith));
     rest = t′;
     held = n + length r;
     is = e ∙ ap (λ (l : List ℕ). l ++ t′) (sym (take-all left r (omega arith)));
@@ -162,16 +151,15 @@ module _ (P : ℕ) (fours : P % 4 ≡ 0) (big : 16 ≤ P) where
         (and-both _ _ (eq-eqb end 0 (not-ended end n s q t (subst (λ (k : ℕ). Follows P k end n (s ∷ q) t) closed f)))
         (and-both _ _ (eq-eqb (at s 0) 1 (ap (λ (l : List ℕ). at l 0) e))
         (and-both _ _ (ap isHeader e ∙ header-is (h .tag) (h .size) (h .end) (h .behind) (h .tag-some) (h .size-some) fits (h .flag))
-        (and-both _ _ (eq-eqb (length s) (min P (12 + padded (fourAt s 4)))
-        (header-long (length s) (length (h .behind)) (padded (h .size)) long (b .full-length) ∙ ap (λ (k : ℕ). min P (12 + padded k)) (sym size)))
-        ((λ i. allZero (drop (size i) (behind i))) ∙ b .clean)))))
+        (eq-eqb (length s) (min P (12 + padded (fourAt s 4)))
+        (header-long (length s) (length (h .behind)) (padded (h .size)) long (b .full-length) ∙ ap (λ (k : ℕ). min P (12 + padded k)) (sym size))))))
         (b .is ∙ (λ i. take (sym size i) (sym behind i) ++ b .rest))
         ((λ i. parse P (size i - length (behind i)) (at (e i) 8) q) ∙ again (h .size - length (h .behind)) (h .end) (b .held) (b .rest) (b .follows))
     one-read f (more opened b) =
         let r = bit-reads P left end n s q t b in
         parse-more P left end s q (omega arith)
         ∙ read-on (isMore P left s) (take left s) t (r .rest) (parse P (left - length s) end q)
-        (and-both _ _ (eq-eqb (length s) (min P (padded left)) (r .full-length)) (r .clean)) (r .is) (again (left - length s) end (r .held) (r .rest) (r .follows))
+        (eq-eqb (length s) (min P (padded left)) (r .full-length)) (r .is) (again (left - length s) end (r .held) (r .rest) (r .follows))
 
   read-back : (q : List (List ℕ)) (left end n : ℕ) (t : List ℕ) → Follows P left end n q t → parse P left end q ≡ (true, t)
   unfolding parse

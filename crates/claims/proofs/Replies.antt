@@ -153,7 +153,7 @@ module _ (P : ℕ) (big : 12 ≤ P) (r : Reader) where
       pick-all Same (n =ᵇ 0) _ _
       (λ e. pick-all (λ (l : InLine). onItsWay l ++ r .unsent ≡ toCome r) (requestsNow (r .due) s) _ _
       (λ f. ap (λ (l : List ℕ). l ++ r .unsent) (closed-none (r .line) (x (eqb-true _ _ e) f))) (λ _. refl))
-      (λ _. pick-all Same (5 <ᵇ n and n <ᵇ 15) _ _ (λ _. refl) (λ _. refl))
+      (λ _. pick-all Same (5 <ᵇ n and n <ᵇ 14) _ _ (λ _. refl) (λ _. refl))
 
   closes-once : (l : InLine) → Not (Underway l) → r .line ≡ l → Same (closedBy r l)
   closes-once shut d e = refl

@@ -199,7 +199,7 @@ module _ (u : Device) (stored : Stored u) (sound : isSound u ≡ true) where
           let o = outOf st in
           let room : o .message .held + o .transfer .left ≤ 1024 = ⊎-elim (λ w. w .1 .room) (λ w. absurd (f .0 (w .0))) s in
           ⊎-elim
-          (λ l. ends (take (o .transfer .left) p) (f .0) (l .0) (l .1) (gate u p g .0) (landed-whole o (u .message) p count (packetSize st) (isConfigured st) long-enough room (f .1) (l .0)))
+          (λ l. ends (f .0) l (gate u p g .0) (landed-whole o (u .message) p count (packetSize st) (isConfigured st) long-enough room (f .1) l))
           (λ l. goes-on (f .0) (l .0) (l .1) (landed-part o (u .message) p count (packetSize st) (isConfigured st) long-enough room (f .1) (l .1)))
           (more-bytes u p g (fours .fours) (f .0))
 
@@ -224,8 +224,8 @@ module _ (u : Device) (stored : Stored u) (sound : isSound u ≡ true) where
             bytes = k .bytes;
           } in
           ⊎-elim
-          (λ r. all-at-once opening (take size (drop 12 p)) (f .0) (r .0) (r .1) (k .fits)
-          (landed-whole o (u .message) (drop 12 p) count (packetSize st) (isConfigured st) long-enough (k .room) counted (r .0)))
+          (λ r. all-at-once opening (f .0) r (k .fits)
+          (landed-whole o (u .message) (drop 12 p) count (packetSize st) (isConfigured st) long-enough (k .room) counted r))
           (λ r. begins opening (f .0) (let q = r .0 in let n = k .long in let b = fours .least in omega arith) (r .1)
           (landed-part o (u .message) (drop 12 p) count (packetSize st) (isConfigured st) long-enough (k .room) counted (r .1)))
           (k .rest)

@@ -12,7 +12,8 @@ use Rattle.rules.specs.Answers.{done}
 use Rattle.rules.specs.Flags.{ON}
 use Rattle.port.specs.Parts.{STORE}
 use Rattle.port.specs.Answer.{Answer}
-use Rattle.port.specs.Device.{Device, made, zeroed, powerOn}
+use Rattle.port.specs.Alignment.{AlignmentIgnored}
+use Rattle.port.specs.Device.{Device, Result, made, zeroed, powerOn}
 use Rattle.port.specs.Step.{in-poll, Call, out-packet, take-into, bus-reset, quiet, setup-of, Stepping}
 use Rattle.port.specs.Idle.{constant, refusing, idling, doingNothing, pretending}
 use Rattle.port.specs.Laws.{Stored, SET-CONFIGURATION}
@@ -22,7 +23,7 @@ use Rattle.port.proofs.Opened.{computed}
 use Rattle.claims.specs.Command.{Piece, Sendable, cutUp, sending}
 use Rattle.claims.specs.Arrival.{Waiting}
 use Rattle.claims.specs.Handed.{AllBrought}
-use Rattle.claims.specs.Wrong.{takingShort, takingSurplus, triggeringOnRefusals, givingHalves}
+use Rattle.claims.specs.Wrong.{takingShort, takingSurplus, minding, keeping, triggeringOnRefusals, givingHalves}
 use Rattle.claims.specs.Claims.{NoHalfCommandEver, ActsOnlyOnEver, WholeCommand}
 use Rattle.claims.proofs.Bytes.{smallCalls, calls-octets}
 use Rattle.claims.proofs.Numbers.{skip}
@@ -105,16 +106,16 @@ no-constant-number a claim =
     let poll = skip (claim powered (quiet (in-poll 64))) true≢false in
     ⊎-elim (λ k. let e = k .0 in omega arith) (λ k. k .0 refl) poll
 
--- ** by a command that is to arrive: "A" and "B", of one byte, to a unit just configured
+-- ** by a command that is to arrive: "A" and "B", of one byte, with old bytes behind it, to a unit just configured
 
 abbrev configured : Device
 configured = made (record { packet = 64 }) ON
 
 abbrev letter : ℕ → List Piece
-letter b = record { empties = 0; tag = 1; bytes = b ∷ [] } ∷ []
+letter b = record { empties = 0; tag = 1; bytes = b ∷ []; alignment = 9 ∷ 9 ∷ 9 ∷ [] } ∷ []
 
 abbrev packet : ℕ → List ℕ
-packet b = 1 ∷ 1 ∷ 254 ∷ 0 ∷ 1 ∷ 0 ∷ 0 ∷ 0 ∷ 1 ∷ 0 ∷ 0 ∷ 0 ∷ b ∷ 0 ∷ 0 ∷ 0 ∷ []
+packet b = 1 ∷ 1 ∷ 254 ∷ 0 ∷ 1 ∷ 0 ∷ 0 ∷ 0 ∷ 1 ∷ 0 ∷ 0 ∷ 0 ∷ b ∷ 9 ∷ 9 ∷ 9 ∷ []
 
 stored : Stored configured
 unfolding made zeroed
@@ -125,7 +126,7 @@ unfolding computed
 waiting = record { sound = refl; configured = refl; running = refl; finished = refl; closed = refl }
 
 sendable : (b : ℕ) → Sendable (letter b)
-sendable b = record { good = (omega arith, omega arith, omega arith, tt); some = omega arith; fits = omega arith }
+sendable b = record { good = (omega arith, omega arith, omega arith, refl, tt); some = omega arith; fits = omega arith }
 
 module _ (does : Stepping) (claim : WholeCommand does) (b : ℕ) (byte : smallCalls (out-packet (packet b) ∷ []) ≡ true) where
   arrived : (does configured (out-packet (packet b)) .answer .verdict .number ≡ 0)
@@ -165,3 +166,20 @@ no-doing-nothing claim = let e : _≡_ {A = ℕ} 16 0 = ap number-of (arrived do
 pub no-idling : WholeCommand idling → ⊥
 unfolding idling computed
 no-idling claim = let e : _≡_ {A = ℕ} 16 0 = ap number-of (arrived idling claim 65 refl .1) in omega arith
+
+-- the old bytes are no fault
+pub no-minding : WholeCommand minding → ⊥
+unfolding minding computed
+no-minding claim = let e : _≡_ {A = ℕ} 14 0 = arrived minding claim 65 refl .0 in omega arith
+
+-- ** by two packets that differ in an alignment byte alone
+
+-- the same, with zeros behind it
+abbrev zeros-behind : List ℕ
+zeros-behind = 1 ∷ 1 ∷ 254 ∷ 0 ∷ 1 ∷ 0 ∷ 0 ∷ 0 ∷ 1 ∷ 0 ∷ 0 ∷ 0 ∷ 65 ∷ 0 ∷ 0 ∷ 0 ∷ []
+
+pub no-keeping : AlignmentIgnored keeping → ⊥
+unfolding keeping computed
+no-keeping claim =
+    let e : _≡_ {A = ℕ} 9 0 = ap (λ (r : Result). getD (r .unit .message) 1 0) (claim configured (packet 65) zeros-behind (record { long = refl; more = λ n. absurd (n refl); header = λ _. refl })) in
+    omega arith

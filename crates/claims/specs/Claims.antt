@@ -12,6 +12,7 @@ use Rattle.port.specs.Device.{Device, isSound, powerOn}
 use Rattle.port.specs.Step.{Call, setup-of, Stepping, step, run, after}
 use Rattle.port.specs.Trace.{trace, AllInOctets}
 use Rattle.port.specs.When.{RuleForEvery}
+use Rattle.port.specs.Alignment.{AlignmentIgnored}
 use Rattle.port.specs.Reply.{RepliesRead}
 use Rattle.port.specs.Service.{StatusTold}
 use Rattle.port.specs.Live.{live}
@@ -95,9 +96,9 @@ CommandAfterClear does = (u : Device) (control feature : ℕ) (between : List Ca
     NoBreaks (trace does v between) → AllInOctets between → w .answer .verdict .number ≡ 0
     → Sendable pieces → AllInOctets calls → Arrives P (command pieces) (coming (sending P pieces)) (trace does (w .unit) calls)
 
--- ** all of it; with "Is there a packet that the port has no rule for?" (port, RuleForEvery), that SUCCESS is reached and seven things survive (port,
--- Laws), that the setpoint read back is the one that was offered (port, RepliesRead; Replies), and that the bench is told on 0x83 what it is to be told
--- (port, StatusTold; Service)
+-- ** all of it; with "Is there a packet that the port has no rule for?" (port, RuleForEvery), that alignment bytes reach nothing (port,
+-- AlignmentIgnored), that SUCCESS is reached and seven things survive (port, Laws), that the setpoint read back is the one that was offered (port,
+-- RepliesRead; Replies), and that the bench is told on 0x83 what it is to be told (port, StatusTold; Service)
 
 pub record Claimed (does : Stepping) : Type 0 where
   pub no-half-command : NoHalfCommand does
@@ -114,6 +115,7 @@ pub record Claimed (does : Stepping) : Type 0 where
   pub clean-after-any-fault : CleanAfterAnyFault does
   pub command-after-clear : CommandAfterClear does
   pub rule-for-every : RuleForEvery does
+  pub alignment-ignored : AlignmentIgnored does
   pub replies-read : RepliesRead does
   pub read-back : ReadBack does
   pub reply-arrives : ReplyArrives does

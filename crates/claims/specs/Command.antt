@@ -7,11 +7,12 @@ use mathlib.Core.List.{List, [], _∷_, _++_}
 use mathlib.Core.Logic.{_⊎_}
 use lib.ListN.{length, take, drop, replicate}
 
--- a transfer of a command: the empty packets that come before it, its tag and its data
+-- a transfer of a command: the empty packets that come before it, its tag, its data, and the alignment bytes that the host leaves behind them
 pub record Piece : Type 0 where
   pub empties : ℕ
   pub tag : ℕ
   pub bytes : List ℕ
+  pub alignment : List ℕ
 
 -- ** the data
 
@@ -19,10 +20,14 @@ abbrev pub command : List Piece → List ℕ
 command [] = []
 command (p ∷ ps) = p .bytes ++ command ps
 
--- tags from 1 to 255, and one byte or more in each transfer
+-- these bytes align that data: there are 0 to 3 of them, up to a multiple of four. They "may be anything" (02, request 2)
+abbrev pub Aligns : List ℕ → List ℕ → Type 0
+Aligns alignment d = length alignment ≡ (4 - length d % 4) % 4
+
+-- tags from 1 to 255, and one byte or more in each transfer, aligned
 abbrev pub Good : List Piece → Type 0
 Good [] = Unit {0}
-Good (p ∷ ps) = (1 ≤ p .tag) × (p .tag ≤ 255) × (1 ≤ length (p .bytes)) × Good ps
+Good (p ∷ ps) = (1 ≤ p .tag) × (p .tag ≤ 255) × (1 ≤ length (p .bytes)) × Aligns (p .alignment) (p .bytes) × Good ps
 
 -- a command that a port can hold: "1,024 bytes"
 pub record Sendable (pieces : List Piece) : Type 0 where
@@ -40,12 +45,9 @@ fourBytes n = n % 256 ∷ n / 256 % 256 ∷ n / 65536 % 256 ∷ n / 16777216 % 2
 abbrev pub header : ℕ → ℕ → ℕ → List ℕ
 header tag size end = (1 ∷ tag ∷ (255 - tag) ∷ 0 ∷ []) ++ fourBytes size ++ (end ∷ 0 ∷ 0 ∷ 0 ∷ [])
 
--- the data, and zeros up to a multiple of four
-abbrev pub aligned : List ℕ → List ℕ
-aligned d = d ++ replicate ((4 - length d % 4) % 4) 0
-
+-- the header, the data, its alignment
 abbrev pub transfer : ℕ → Piece → List ℕ
-transfer end p = header (p .tag) (length (p .bytes)) end ++ aligned (p .bytes)
+transfer end p = header (p .tag) (length (p .bytes)) end ++ (p .bytes ++ p .alignment)
 
 -- ** packets
 

@@ -9,7 +9,7 @@ use lib.ListN.{length}
 use Rattle.port.specs.Parts.{outOf}
 use Rattle.port.specs.Device.{Device, heldOf}
 use Rattle.port.specs.Trace.{Event}
-use Rattle.claims.specs.Command.{Piece, command, Good, Sendable, aligned, packets, mark, sending, Others}
+use Rattle.claims.specs.Command.{Piece, command, Aligns, Good, Sendable, packets, mark, sending, Others}
 use Rattle.claims.specs.Wire.{Heard, nothing, accepted, broken-off, wiped-out, handed-over, heardOf, acceptedIn, Unbroken, Waits, Divided}
 
 -- ** accepted packets and a message: these are the packets of one command, with others before it, and that is its data
@@ -43,12 +43,14 @@ pub record Begun : Type 0 where
 -- what it lacks comes, aligned, cut by P; and then the transfers that follow, if it was not marked as the end
 pub record Rest (P : ℕ) (b : Begun) (ps : List (List ℕ)) (m : List ℕ) : Type 0 where
   pub rest : List ℕ
+  pub alignment : List ℕ
   pub pieces : List Piece
   pub lacking : length rest ≡ b .lacks
+  pub aligns : Aligns alignment rest
   pub good : Good pieces
   pub end : mark pieces ≡ b .end
   pub fits : length m ≤ 1024
-  pub sent : ps ≡ packets P (aligned rest) ++ sending P pieces
+  pub sent : ps ≡ packets P (rest ++ alignment) ++ sending P pieces
   pub message : m ≡ b .held ++ (rest ++ command pieces)
 
 pub record Finished (P : ℕ) (b : Begun) (es : List Event) (m : List ℕ) : Type 0 where

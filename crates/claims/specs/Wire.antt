@@ -20,9 +20,9 @@ pub data Heard : Type 0 where
   broken-off wiped-out : Heard
   handed-over : List ℕ → Heard
 
--- a packet: 0 accepts it, 6 to 14 halt Bulk-OUT
+-- a packet: 0 accepts it, 6 to 13 halt Bulk-OUT
 unfoldable pub heardPacket : List ℕ → ℕ → Heard
-heardPacket s n = first (n =ᵇ 0 ⇒ accepted s ∣ 5 <ᵇ n and n <ᵇ 15 ⇒ broken-off ∣ []) nothing
+heardPacket s n = first (n =ᵇ 0 ⇒ accepted s ∣ 5 <ᵇ n and n <ᵇ 14 ⇒ broken-off ∣ []) nothing
 
 -- a request that begins a clear or an abort, and is answered SUCCESS
 abbrev succeeding : Answer → Heard → Heard

@@ -2,3 +2,4 @@
 pub mod Seen
 pub mod Untouched
 pub mod Claims
+pub mod Alignment

@@ -2,31 +2,31 @@
 -- Assumes nothing.
 use Prim.Native.Nat.{ℕ, _+_, _-_, _≤_, _<_, min}
 use mathlib.Core.Path.{_≡_, refl, ap, _∙_}
-use mathlib.Core.Bool.{false}
+use mathlib.Core.Bool.{true, false}
 use mathlib.Core.List.{List}
 use lib.ListN.{length}
 use borrow.Author.Tests.{eq-eqb, ne-eqb, lt-ltb, le-ltb}
 use Rattle.rules.specs.Choice.{first}
 use Rattle.rules.proofs.Choice.{eq-neb, ne-neb, pick-true, pick-false, refuses, passes}
-use Rattle.wire.specs.Header.{HEADER, notInFours, readHeader}
+use Rattle.wire.specs.Header.{HEADER, notInFours, aligned, readHeader}
 use Rattle.wire.specs.declared.types.Header.{Header}
 use Rattle.wire.specs.declared.types.Read.the-variants.{Good}
 use Rattle.port.specs.Parts.{STORE, packetSize, outOf, inOf}
-use Rattle.port.specs.Out.{fitRules, more, outOfTurn, dataLength, headerRules, headerSays, outRules, outcome}
+use Rattle.port.specs.Out.{wrongLength, more, outOfTurn, dataLength, headerRules, headerSays, outRules, outcome}
 use Rattle.port.specs.declared.types.State.{State}
 use Rattle.port.specs.declared.types.Outcome.{Outcome}
 use Rattle.port.specs.declared.types.Outcome.the-variants.{Keep, Halt, Data, Accept}
 
 -- ** a continuing packet
 
-module _ (p left : ℕ) (s : List ℕ) (number : ℕ) (fours : notInFours s ≡ false) (fit : number ≡ first (fitRules p s 0 left) 0) where
-  pub more-halts : (number ≡ 0 → ⊥) → Halt number ≡ more p left s
+module _ (p left : ℕ) (s : List ℕ) (fours : notInFours s ≡ false) where
+  pub more-halts : wrongLength p (length s) (aligned left) ≡ true → Halt 11 ≡ more p left s
   unfolding more
-  more-halts e = pick-false _ _ _ _ fours (refuses Halt (fitRules p s 0 left) _ number tt fit e)
+  more-halts e = pick-false _ _ _ _ fours (pick-true _ _ _ _ e refl)
 
-  pub more-data : number ≡ 0 → (count : ℕ) → count ≡ min left (length s) → Data count ≡ more p left s
+  pub more-data : wrongLength p (length s) (aligned left) ≡ false → (count : ℕ) → count ≡ min left (length s) → Data count ≡ more p left s
   unfolding more
-  more-data e count k = ap Data k ∙ pick-false _ _ _ _ fours (passes Halt (fitRules p s 0 left) _ number tt fit e)
+  more-data e count k = ap Data k ∙ pick-false _ _ _ _ fours (pick-false _ _ _ _ e refl)
 
 -- ** a header
 
@@ -36,8 +36,12 @@ module _ (st : State) (s : List ℕ) (h : Header) where
     pub header-long : STORE < outOf st .message .held + dataLength h → 12 ≡ first (headerRules st s h) 0
     header-long e = pick-false _ _ _ _ turn (pick-true _ _ _ _ (lt-ltb _ _ e) refl)
 
-    pub header-fits : (number : ℕ) → outOf st .message .held + dataLength h ≤ STORE → number ≡ first (fitRules (packetSize st) s HEADER (dataLength h)) 0 → number ≡ first (headerRules st s h) 0
-    header-fits number e f = pick-false _ _ _ _ turn (pick-false _ _ _ _ (le-ltb _ _ e) f)
+    module _ (room : outOf st .message .held + dataLength h ≤ STORE) where
+      pub header-wrong : wrongLength (packetSize st) (length s) (HEADER + aligned (dataLength h)) ≡ true → 11 ≡ first (headerRules st s h) 0
+      header-wrong e = pick-false _ _ _ _ turn (pick-false _ _ _ _ (le-ltb _ _ room) (pick-true _ _ _ _ e refl))
+
+      pub header-fits : wrongLength (packetSize st) (length s) (HEADER + aligned (dataLength h)) ≡ false → 0 ≡ first (headerRules st s h) 0
+      header-fits e = pick-false _ _ _ _ turn (pick-false _ _ _ _ (le-ltb _ _ room) (pick-false _ _ _ _ e refl))
 
   module _ (number : ℕ) (fault : number ≡ first (headerRules st s h) 0) where
     pub header-halts : (number ≡ 0 → ⊥) → Halt number ≡ headerSays st s (Good h)

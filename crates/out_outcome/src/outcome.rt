@@ -7,7 +7,6 @@ use port::types::STORE;
 use port::types::State;
 use rules::DONE;
 use rules::HALTED;
-use rules::MISALIGNED;
 use rules::NOT_IN_FOURS;
 use rules::OUT_OF_TURN;
 use rules::TOO_LONG;
@@ -20,50 +19,40 @@ use wire::types::Read;
 use wire_code::header::HEADER;
 use wire_code::header::not_in_fours;
 use wire_code::header::read_header;
-use wire_code::numbers::all_zero;
 use wire_code::numbers::least;
 use wire_code::numbers::widened;
 ghost use mathlib.Core.Path.{_≡_};
-ghost use Prim.Native.Nat.{ℕ, _≤_, _<_};
+ghost use Prim.Native.Nat.{ℕ, _<_};
 ghost use Rattle.rules.specs.Choice.{first};
-ghost use Rattle.wire.specs.Header.{readHeader, headerNumber};
+ghost use Rattle.wire.specs.Header.{aligned, readHeader, headerNumber};
 ghost use Rattle.port.specs.Parts.{unfinished};
-ghost use Rattle.port.specs.Out.{alignment, fitRules, more, requestOutOfTurn, outOfTurn, dataLength, headerRules, headerSays, outRules, outcome};
+ghost use Rattle.port.specs.Out.{wrongLength, more, requestOutOfTurn, outOfTurn, dataLength, headerRules, headerSays, outRules, outcome};
 
 // A store's bytes, as a TransferSize.
 pub const MOST: u32 = STORE as u32;
 
-// The alignment bytes, from `at` to the end of the packet, are 0.
-fn alignment(s: &[u8], at: usize) -> u8
-    ensures { λ r. ⌜ r ≡ first (alignment (now (s .entry)) at) 0 ⌝ }
+// As many data bytes, up to a multiple of four.
+fn aligned(n: usize) -> usize
+    requires { ⌜ n < 65536 ⌝ }
+    ensures { λ r. ⌜ r ≡ aligned n ⌝ }
 {
-    let n = s.len();
-    if n <= at {
-        return DONE;
-    }
-    if all_zero(s, at, n) {
-        return DONE;
-    }
-    MISALIGNED
+    (n + 3) / 4 * 4
 }
 
-// The bytes of a packet from `from` on against the `left` data bytes that are to come.
-fn fit(p: usize, s: &[u8], from: usize, left: usize) -> u8
-    requires { ⌜ (from ≤ 12) × (left < 65536) ⌝ }
-    ensures { λ r. ⌜ r ≡ first (fitRules p (now (s .entry)) from left) 0 ⌝ }
+// A packet of n bytes where `due` are to come: it has more, or it is short and has fewer.
+fn wrong_length(p: usize, n: usize, due: usize) -> bool
+    ensures { λ r. ⌜ r ≡ wrongLength p n due ⌝ }
 {
-    let n = s.len();
-    let due = from + (left + 3) / 4 * 4;
     if due < n {
-        return WRONG_LENGTH;
+        return true;
     }
-    if n < due {
-        if n < p {
-            return WRONG_LENGTH;
-        }
-        return alignment(s, from + left);
+    if p <= n {
+        return false;
     }
-    alignment(s, from + left)
+    if due <= n {
+        return false;
+    }
+    true
 }
 
 // A packet of an open transfer.
@@ -76,9 +65,10 @@ fn more(p: usize, left: u16, s: &[u8]) -> Outcome
         };
     }
     let due = widened(left);
-    let number = fit(p, s, 0, due);
-    if number != 0 {
-        return Outcome::Halt { number };
+    if wrong_length(p, s.len(), aligned(due)) {
+        return Outcome::Halt {
+            number: WRONG_LENGTH,
+        };
     }
     Outcome::Data {
         count: least(due, s.len()),
@@ -146,7 +136,7 @@ fn data_length(h: Header) -> u32
     }
 }
 
-// The first of 13, 12, 11 and 14 that applies to a header, or 0.
+// The first of 13, 12 and 11 that applies to a header, or 0.
 fn header_fault(st: State, s: &[u8], h: Header) -> u8
     ensures { λ r. ⌜ r ≡ first (headerRules st (now (s .entry)) h) 0 ⌝ }
 {
@@ -163,8 +153,11 @@ fn header_fault(st: State, s: &[u8], h: Header) -> u8
     if MOST < held + size {
         return TOO_LONG;
     }
-    let n = size as usize;
-    fit(widened(st.small.port.setting.packet), s, HEADER, n)
+    let due = HEADER + aligned(size as usize);
+    if wrong_length(widened(st.small.port.setting.packet), s.len(), due) {
+        return WRONG_LENGTH;
+    }
+    DONE
 }
 
 // The number of a fault; 0 for a header that is read.

@@ -38,7 +38,7 @@ module _ (st : State) (s : List ℕ) where
 
   more-carried : OutSound (outOf st) → (outOf st .transfer .left ≡ 0 → ⊥) → Carried (more (packetSize st) (outOf st .transfer .left) s)
   unfolding more Carried
-  more-carried (inl w) e = let r = w .1 .room in let g = w .1 .within in decide-all Carried Halt (moreRules (packetSize st) (outOf st .transfer .left) s) _ (tt, (tt, (tt, tt)))
+  more-carried (inl w) e = let r = w .1 .room in let g = w .1 .within in decide-all Carried Halt (moreRules (packetSize st) (outOf st .transfer .left) s) _ (tt, (tt, tt))
       (λ _. ((omega arith, omega arith, omega arith), omega arith))
   more-carried (inr w) e = absurd (e (w .0))
 
@@ -51,7 +51,7 @@ module _ (st : State) (s : List ℕ) where
   header-carried : (r : Read) → Reads s r → Carried (headerSays st s r)
   unfolding headerSays Carried
   header-carried (Fault number) h = tt
-  header-carried (Good h) l = decide-all Carried Halt (headerRules st s h) _ (tt, (tt, (tt, (tt, tt)))) (λ n. accept-carried h (ltb-false STORE _ (n .1 .0)) (l .0))
+  header-carried (Good h) l = decide-all Carried Halt (headerRules st s h) _ (tt, (tt, (tt, tt))) (λ n. accept-carried h (ltb-false STORE _ (n .1 .0)) (l .0))
 
   pub outcome-carried : sound st ≡ true → Carried (outcome st s)
   unfolding outcome Carried

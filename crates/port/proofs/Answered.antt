@@ -79,7 +79,6 @@ witnesses outs =
     ∷ on-behind (request 1 1 ∷ []) (request 1 1)
     ∷ on-behind [] (message 1 1025 1 [])
     ∷ on-behind [] (message 1 1 1 [])
-    ∷ on-behind [] (message 1 1 1 (7 ∷ 0 ∷ 0 ∷ 1 ∷ []))
     ∷ []
 witnesses polls =
     on-behind (quiet (offer-reply (7 ∷ [])) ∷ request 1 1 ∷ []) (quiet (in-poll 64))
@@ -143,7 +142,7 @@ answer suspends = refl
 fitting : (k : Kind) → Fitting k (witnesses k)
 unfolding witnesses
 fitting setups = (refl, (refl, (refl, (refl, tt))))
-fitting outs = (refl, (refl, (refl, (refl, (refl, (refl, (refl, (refl, (refl, (refl, (refl, (refl, (refl, (refl, (refl, tt)))))))))))))))
+fitting outs = (refl, (refl, (refl, (refl, (refl, (refl, (refl, (refl, (refl, (refl, (refl, (refl, (refl, (refl, tt))))))))))))))
 fitting polls = (refl, (refl, (refl, (refl, (refl, (refl, tt))))))
 fitting interrupts = (refl, (refl, (refl, (refl, (refl, (refl, tt))))))
 fitting takes = (refl, (refl, (refl, (refl, (refl, tt)))))

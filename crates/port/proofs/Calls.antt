@@ -13,7 +13,7 @@ use lib.Seq.{paste, paste-zero, length-paste}
 use borrow.Author.Tests.{ne-eqb, eqb-true, eqb-false, ltb-false}
 use Rattle.rules.specs.Choice.{_=ᵇ_, pick, decide}
 use Rattle.rules.specs.Answers.{DONE, UNSOUND, UNCONFIGURED, WRONG-SIZE, HALTED, WAIT, NOT-IN-FOURS, SHORT-HEADER, BAD-TAG, UNKNOWN-MSGID, RESERVED}
-use Rattle.rules.specs.Answers.{WRONG-LENGTH, TOO-LONG, OUT-OF-TURN, MISALIGNED, NO-ROW, NOT-NOW, unchanged, out-halted, leaves, only}
+use Rattle.rules.specs.Answers.{WRONG-LENGTH, TOO-LONG, OUT-OF-TURN, NO-ROW, NOT-NOW, unchanged, out-halted, leaves, only}
 use Rattle.rules.proofs.Choice.{pick-all, decide-all, at-true, at-false, no-true, not-no, none-left, none-right, eq-neb, or-left, not-both, decide-lines}
 use Rattle.wire.specs.Bytes.{byte}
 use Rattle.rules.specs.Flags.{OFF}
@@ -288,10 +288,7 @@ module _ (u : Device) (h : Sound (u .state)) where
                   halt-way OUT-OF-TURN tt refl (λ e. omega arith),
                   (
                     halt-way TOO-LONG tt refl (λ e. omega arith),
-                    (
-                      halt-way WRONG-LENGTH tt refl (λ e. omega arith),
-                      (halt-way MISALIGNED tt refl (λ e. omega arith), tt),
-                    ),
+                    (halt-way WRONG-LENGTH tt refl (λ e. omega arith), tt),
                   ),
                 ),
               ),

@@ -388,7 +388,7 @@ fault-leaves : (n : ℕ) → OneOf n (DONE ∷ bulk faults) → 5 < n → leaves
 unfolding leaves pick
 fault-leaves n o l =
     sym (at-false (n ≤ᵇ 5) out-halted (leaves n) (lt-leb _ _ l))
-    ∙ each-of P n (DONE ∷ bulk faults) (refl, (refl, (refl, (refl, (refl, (refl, (refl, (refl, (refl, (refl, (refl, (refl, (refl, (refl, (refl, tt))))))))))))))) o
+    ∙ each-of P n (DONE ∷ bulk faults) (refl, (refl, (refl, (refl, (refl, (refl, (refl, (refl, (refl, (refl, (refl, (refl, (refl, (refl, tt)))))))))))))) o
   where
     P : ℕ → Type 0
     P m = pick (m ≤ᵇ 5) out-halted (leaves m) ≡ out-halted

@@ -20,5 +20,6 @@ pub mod Halts
 pub mod Transfers
 pub mod Sending
 pub mod Readers
+pub mod Alignment
 pub mod Replies
 pub mod Service

@@ -140,9 +140,9 @@ module _ (r : Reader) (s : List ℕ) where
   unfolding afterPacket
   packet-kept n a b = at-false _ _ _ (ne-eqb n 0 (λ e. omega arith)) ∙ at-false _ _ _ (and-left _ _ (le-ltb 5 n b))
 
-  pub packet-halted : (n : ℕ) → 5 < n → n < 15 → afterPacket r s n ≡ cut-off r
+  pub packet-halted : (n : ℕ) → 5 < n → n < 14 → afterPacket r s n ≡ cut-off r
   unfolding afterPacket
-  packet-halted n a b = at-false _ _ _ (ne-eqb n 0 (λ e. omega arith)) ∙ at-true _ _ _ (and-both _ _ (lt-ltb 5 n a) (lt-ltb n 15 b))
+  packet-halted n a b = at-false _ _ _ (ne-eqb n 0 (λ e. omega arith)) ∙ at-true _ _ _ (and-both _ _ (lt-ltb 5 n a) (lt-ltb n 14 b))
 
   pub packet-done : afterPacket r s 0 ≡ record { due = dueAfter (r .due) s; unsent = r .unsent; line = pick (requestsNow (r .due) s) (asked (askedBy s)) (r .line) }
   unfolding afterPacket
@@ -163,7 +163,7 @@ asks-same s tag size enabled term m =
 
 -- a header that is refused halts
 abbrev InRange : Read → Type 0
-InRange (Fault n) = (5 < n) × (n < 15)
+InRange (Fault n) = (5 < n) × (n < 14)
 InRange (Good x) = Unit {0}
 
 header-range : (s : List ℕ) → InRange (readHeader s)
@@ -174,7 +174,7 @@ header-range s = header-ways s InRange (omega arith, omega arith) (λ _ _. tt) (
 module _ (st : State) (s : List ℕ) where
   abbrev pub Came : Outcome → Type 0
   Came (Keep n) = ((n ≡ 0) × (length s ≡ 0) × (outOf st .transfer .left ≡ 0)) ⊎ ((0 < n) × (n ≤ 5))
-  Came (Halt n) = (5 < n) × (n < 15)
+  Came (Halt n) = (5 < n) × (n < 14)
   Came (Data count) = Not (outOf st .transfer .left ≡ 0) × (count ≡ min (outOf st .transfer .left) (length s))
   Came (Accept x count) = (outOf st .transfer .left ≡ 0) × (count ≡ min (dataLength x) (length s - HEADER)) × Means s x × (outOfTurn (outOf st) (inOf st) x ≡ false)
 
@@ -182,7 +182,7 @@ module _ (st : State) (s : List ℕ) where
   unfolding headerSays
   header-came e (Fault n) f k = k
   header-came e (Good x) f k =
-      decide-all Came Halt (headerRules st s x) _ ((omega arith, omega arith), ((omega arith, omega arith), ((omega arith, omega arith), ((omega arith, omega arith), tt))))
+      decide-all Came Halt (headerRules st s x) _ ((omega arith, omega arith), ((omega arith, omega arith), ((omega arith, omega arith), tt)))
       (λ n. (e, refl, header-law .meaning s x f, n .0))
 
   pub came : Came (outcome st s)
@@ -191,6 +191,6 @@ module _ (st : State) (s : List ℕ) where
       decide-all Came Keep (outRules st (length s)) _
       (inr (omega arith, omega arith), (inr (omega arith, omega arith), (inr (omega arith, omega arith), (inr (omega arith, omega arith), tt))))
       (λ _. pick-all Came (isOpenOut (outOf st)) _ _
-      (λ e. decide-all Came Halt (moreRules (packetSize st) (outOf st .transfer .left) s) _ ((omega arith, omega arith), ((omega arith, omega arith), ((omega arith, omega arith), tt)))
+      (λ e. decide-all Came Halt (moreRules (packetSize st) (outOf st .transfer .left) s) _ ((omega arith, omega arith), ((omega arith, omega arith), tt))
       (λ _. (neb-ne _ _ e, refl)))
       (λ e. pick-all Came (length s =ᵇ 0) _ _ (λ f. inl (refl, eqb-true _ _ f, neb-eq _ _ e)) (λ _. header-came (neb-eq _ _ e) (readHeader s) refl (header-range s))))

@@ -7,7 +7,7 @@ use mathlib.Core.List.{List, [], _∷_}
 use lib.ListN.{length}
 use borrow.Author.Tests.{ltb-false}
 use Rattle.rules.specs.Choice.{_=ᵇ_}
-use Rattle.rules.specs.Answers.{DONE, NOT-IN-FOURS, SHORT-HEADER, BAD-TAG, UNKNOWN-MSGID, RESERVED, WRONG-LENGTH, TOO-LONG, OUT-OF-TURN, MISALIGNED}
+use Rattle.rules.specs.Answers.{DONE, NOT-IN-FOURS, SHORT-HEADER, BAD-TAG, UNKNOWN-MSGID, RESERVED, WRONG-LENGTH, TOO-LONG, OUT-OF-TURN}
 use Rattle.rules.proofs.Choice.{NoneOf, Each, EachLine, pick-all, decide-all, decide-lines, neb-ne, neb-eq, not-no}
 use Rattle.wire.specs.Header.{HEADER, readHeader}
 use Rattle.wire.specs.declared.types.Header.{Header}
@@ -47,7 +47,7 @@ passed st n h = record { configured = not-no _ (h .0); fits = ltb-false _ _ (h .
 pub record Ways (st : State) (s : List ℕ) (Q : Outcome → Type 0) : Type 0 where
   pub keeps : EachLine (λ (n : ℕ). Q (Keep n)) (outRules st (length s))
   pub empty : Passed st (length s) → Q (Keep DONE)
-  pub halts : Passed st (length s) → Each (λ (m : ℕ). Q (Halt m)) (NOT-IN-FOURS ∷ SHORT-HEADER ∷ BAD-TAG ∷ UNKNOWN-MSGID ∷ RESERVED ∷ OUT-OF-TURN ∷ TOO-LONG ∷ WRONG-LENGTH ∷ MISALIGNED ∷ [])
+  pub halts : Passed st (length s) → Each (λ (m : ℕ). Q (Halt m)) (NOT-IN-FOURS ∷ SHORT-HEADER ∷ BAD-TAG ∷ UNKNOWN-MSGID ∷ RESERVED ∷ OUT-OF-TURN ∷ TOO-LONG ∷ WRONG-LENGTH ∷ [])
   pub continues : Continues st s → Q (Data (min (outOf st .transfer .left) (length s)))
   pub heads : (h : Header) → Heads st s h → Q (Accept h (min (dataLength h) (length s - HEADER)))
 
@@ -56,14 +56,14 @@ module _ (st : State) (s : List ℕ) (Q : Outcome → Type 0) (w : Ways st s Q) 
   unfolding more
   more-ways p e =
       let h = w .halts p in
-      decide-all Q Halt (moreRules (packetSize st) (outOf st .transfer .left) s) _ (h .0, (h .1 .1 .1 .1 .1 .1 .1 .0, (h .1 .1 .1 .1 .1 .1 .1 .1 .0, tt)))
+      decide-all Q Halt (moreRules (packetSize st) (outOf st .transfer .left) s) _ (h .0, (h .1 .1 .1 .1 .1 .1 .1 .0, tt))
       (λ n. w .continues (record { passed = p; is-open = e; none = n }))
 
   good-ways : Passed st (length s) → outOf st .transfer .left ≡ 0 → (h : Header) → Reads s (Good h) → Q (headerSays st s (Good h))
   unfolding headerSays
   good-ways p e h r =
       let f = w .halts p in
-      decide-all Q Halt (headerRules st s h) _ (f .1 .1 .1 .1 .1 .0, (f .1 .1 .1 .1 .1 .1 .0, (f .1 .1 .1 .1 .1 .1 .1 .0, (f .1 .1 .1 .1 .1 .1 .1 .1 .0, tt))))
+      decide-all Q Halt (headerRules st s h) _ (f .1 .1 .1 .1 .1 .0, (f .1 .1 .1 .1 .1 .1 .0, (f .1 .1 .1 .1 .1 .1 .1 .0, tt)))
       (λ n. w .heads h (record { passed = p; between = e; reads = r; none = n }))
 
   says-ways : Passed st (length s) → outOf st .transfer .left ≡ 0 → Q (headerSays st s (readHeader s))

@@ -4,31 +4,28 @@
 use Prim.Native.Nat.{ℕ, _+_, _<_, _%_}
 use mathlib.Core.Path.{_≡_, refl, sym, ap, _∙_, subst}
 use mathlib.Core.Bool.{Bool, true, true≢false, false≢true}
-use mathlib.Core.List.{List}
+use mathlib.Core.List.{List, []}
 use mathlib.Core.Logic.{_⊎_, inl, inr, ⊎-elim}
 use native.Mathlib.Omega.{arith}
 use lib.Dec.{T}
-use lib.ListN.{length, drop}
-use lib.Seq.{take-length}
+use lib.ListN.{length}
 use borrow.Author.Tests.{eqb-true, eqb-false}
 use Rattle.rules.specs.Choice.{_=ᵇ_, _<ᵇ_, no, pick, _⇒_∣_, decide}
-use Rattle.rules.specs.Answers.{DONE, TOO-LONG, OUT-OF-TURN}
+use Rattle.rules.specs.Answers.{DONE, WRONG-LENGTH, TOO-LONG, OUT-OF-TURN}
 use Rattle.rules.specs.When.{Not, _when_∣_, else-0}
-use Rattle.rules.proofs.Choice.{pick-all, no-true, no-false, is-no, neb-ne, neb-eq}
-use Rattle.rules.proofs.When.{Tells, in-words, equals, differs, is-less, negated, one-of, decided, sure, both-of, By, through, line}
-use Rattle.wire.specs.Bytes.{allZero, zeros}
+use Rattle.rules.proofs.Choice.{pick-all, no-true, no-false, neb-ne, neb-eq}
+use Rattle.rules.proofs.When.{Tells, in-words, equals, differs, is-less, negated, one-of, decided, both-of, By, through, line}
 use Rattle.wire.specs.Header.{HEADER, readHeader}
 use Rattle.wire.specs.Setup.{readSetup}
-use Rattle.wire.specs.When.{fourAt, Zeros, Commands, Requests, Triggers, rows, Matches, Means}
+use Rattle.wire.specs.When.{fourAt, Commands, Requests, Triggers, rows, Matches, Means}
 use Rattle.wire.specs.declared.types.Header.{Header}
 use Rattle.wire.specs.declared.types.Header.the-variants.{Message, Request, Trigger}
 use Rattle.wire.specs.declared.types.Read.the-variants.{Good}
 use Rattle.wire.specs.declared.types.Setup.{Setup}
 use Rattle.wire.specs.declared.types.Setup.the-variants.{Configure, Asks, NoRow}
-use Rattle.wire.proofs.Bytes.{zeros-none}
-use Rattle.wire.proofs.When.{all-zeros, header-when, isRow, Right, matched, unmatched, setup-read}
+use Rattle.wire.proofs.When.{header-when, isRow, Right, matched, unmatched, setup-read}
 use Rattle.port.specs.Parts.{STORE, isSize, isOpenOut, unfinished, hasReply, isClear, portOf, outOf, inOf, packetSize, isConfigured}
-use Rattle.port.specs.Out.{wrongLength, fitRules, more, headerSays, outcome, planned, accepted, outPlan}
+use Rattle.port.specs.Out.{wrongLength, more, headerSays, outcome, planned, accepted, outPlan}
 use Rattle.port.specs.In.{poll}
 use Rattle.port.specs.Interrupt.{interruptPoll}
 use Rattle.port.specs.Device.{Device, Result, isSound, powerOn}
@@ -37,7 +34,7 @@ use Rattle.port.specs.Calls.{taking, take-message, offerPlan, withReply,
 use Rattle.port.specs.Step.{in-poll, interrupt-poll, offer-reply, set-status, front-panel, bus-suspend, Call}
 use Rattle.port.specs.Step.{setup-packet, out-packet, take-into, bus-reset, quiet, quietly, soundly, step}
 use Rattle.port.specs.When.{Unsound, Unconfigured, MessageUnfinished, OutOpen, ReplyStored, OutOfTurn}
-use Rattle.port.specs.When.{TooLong, HeaderWrongLength, Misaligned, ofMore, ofHeader, ofPacket}
+use Rattle.port.specs.When.{TooLong, HeaderWrongLength, ofMore, ofHeader, ofPacket}
 use Rattle.port.specs.When.{Configures, Served, given, givenPower, RuleForEvery, PowerRule}
 use Rattle.port.specs.declared.types.Split.{Split}
 use Rattle.port.specs.declared.types.Split.the-variants.{None, AbortOut, AbortIn, Clear}
@@ -87,12 +84,6 @@ reply-stored u = one-of (differs (inOf (u .state) .reply .unsent) 0) (equals (in
 wrong-length : (p n : ℕ) {due due′ : ℕ} → due ≡ due′ → Tells (wrongLength p n due) ((due′ < n) ⊎ ((n < due′) × (n < p)))
 wrong-length p n {due} e = subst (λ (d : ℕ). Tells (wrongLength p n due) ((d < n) ⊎ ((n < d) × (n < p)))) e (one-of (is-less due n) (both-of (is-less n due) (is-less n p)))
 
-misaligned : (s : List ℕ) {from : ℕ} (end : ℕ) → from ≡ end → Tells (no (zeros s from (length s))) (Misaligned s end)
-unfolding zeros
-misaligned s end e =
-    subst (λ (a : ℕ). Tells (no (zeros s a (length s))) (Misaligned s end)) (sym e)
-    (negated (subst (λ (t : List ℕ). Tells (allZero (drop end t)) (Zeros (drop end s))) (sym (take-length s)) (all-zeros (drop end s))))
-
 -- the kinds of header are apart
 apart : (s : List ℕ) → Commands s → Not (Requests s ⊎ Triggers s)
 apart s c = ⊎-elim (λ r. omega arith) (λ t. omega arith)
@@ -106,15 +97,13 @@ module _ (u : Device) (s : List ℕ) (h : Sound (u .state)) where
   behind =
       13 when OutOfTurn u s ∣
       12 when TooLong u s ∣
-      11 when HeaderWrongLength u s ∣
-      14 when (Commands s × Misaligned s (12 + fourAt s 4)) ∣ else-0
+      11 when HeaderWrongLength u s ∣ else-0
 
   more-when : By outcomeNumber (λ _. ofMore u s) (more (packetSize (u .state)) (outOf (u .state) .transfer .left) s)
   unfolding more planned
   more-when =
       line _ (differs (length s % 4) 0) refl
-      (λ _. line _ (wrong-length _ (length s) (omega arith)) refl
-      (λ _. line _ (misaligned s (outOf (u .state) .transfer .left) (omega arith)) refl (λ _. record { told = refl })))
+      (λ _. line _ (wrong-length _ (length s) (omega arith)) refl (λ _. record { told = refl }))
 
   command-when : (tag size end : ℕ) → Means s (Message tag size end) → By outcomeNumber (λ _. behind) (headerSays (u .state) s (Good (Message tag size end)))
   unfolding headerSays planned accepted
@@ -124,11 +113,12 @@ module _ (u : Device) (s : List ℕ) (h : Sound (u .state)) where
       line _ (record { held = λ e. absurd (false≢true e); failed = λ _. ⊎-elim (λ r. apart s c (inl (r .0))) (λ r. apart s c (r .0)) }) refl
       (λ _. line _ (in-words (λ l. (c, omega arith)) (λ l. let k = l .1 in omega arith) (is-less STORE (outOf (u .state) .message .held + size))) refl
       (λ _. line _ (in-words (λ w. inl (c, w)) (⊎-elim (λ r. r .1) (λ r. absurd (apart s c (r .0)))) (wrong-length _ (length s) (omega arith))) refl
-      (λ _. line _ (in-words (λ z. (c, z)) (λ z. z .1) (misaligned s (12 + fourAt s 4) (omega arith))) refl (λ _. record { told = refl }))))
+      (λ _. record { told = refl })))
 
   -- a REQUEST or a TRIGGER: a packet of exactly 12
   plain-when : {t : Bool} (x : Outcome) → outcomeNumber x ≡ 0 → Requests s ⊎ Triggers s → Tells t (OutOfTurn u s)
-      → By outcomeNumber (λ _. behind) (decide Halt (t ⇒ OUT-OF-TURN ∣ STORE <ᵇ outOf (u .state) .message .held + 0 ⇒ TOO-LONG ∣ fitRules (packetSize (u .state)) s HEADER 0) x)
+      → By outcomeNumber (λ _. behind)
+      (decide Halt (t ⇒ OUT-OF-TURN ∣ STORE <ᵇ outOf (u .state) .message .held + 0 ⇒ TOO-LONG ∣ wrongLength (packetSize (u .state)) (length s) HEADER ⇒ WRONG-LENGTH ∣ []) x)
   unfolding planned
   plain-when x z k turn =
       let other : Not (Commands s) = λ c. apart s c k in
@@ -141,9 +131,7 @@ module _ (u : Device) (s : List ℕ) (h : Sound (u .state)) where
       (⊎-elim (λ r. absurd (other (r .0))) (λ r. let n = r .1 in ⊎-elim inl (λ l. inr (omega arith, omega arith)) (decided _ (is-less 12 (length s)))))
       (wrong-length _ (length s) refl))
       refl
-      (λ w.
-      let twelve = sure _ (equals (length s) 12) (λ n. w (inr (k, n))) in
-      line _ (record { held = λ e. absurd (true≢false (sym (zeros-none s HEADER (length s) (omega arith)) ∙ is-no _ e)); failed = λ _ c. other (c .0) }) refl (λ _. record { told = z }))))
+      (λ _. record { told = z })))
 
   good-when : (x : Header) → Means s x → By outcomeNumber (λ _. behind) (headerSays (u .state) s (Good x))
   unfolding headerSays planned accepted

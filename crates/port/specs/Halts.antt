@@ -213,7 +213,7 @@ TellsHalt halted u v bytes = (halted → bytes ≡ 1 ∷ 0 ∷ []) × (Not halte
 
 -- ** a fault, SET_CONFIGURATION and reset
 
--- "OUT halted": any of 6 to 14; a refused header "moves neither tag nor state but for the halt"
+-- "OUT halted": any of 6 to 13; a refused header "moves neither tag nor state but for the halt"
 pub record Faults (u v : Device) : Type 0 where
   pub halts : Halted u v
   pub tag-stays : outSide v .recent ≡ outSide u .recent

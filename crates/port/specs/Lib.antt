@@ -13,6 +13,7 @@ pub mod Calls
 pub mod Step
 pub mod Trace
 pub mod When
+pub mod Alignment
 pub mod Reply
 pub mod Halts
 pub mod Service

@@ -3,7 +3,7 @@
 use Prim.Native.Nat.{ℕ}
 use mathlib.Core.List.{List, [], _∷_}
 use Rattle.rules.specs.Answers.{UNSOUND, UNCONFIGURED, WRONG-SIZE, HALTED, WAIT, NOT-IN-FOURS, SHORT-HEADER, BAD-TAG, UNKNOWN-MSGID}
-use Rattle.rules.specs.Answers.{RESERVED, WRONG-LENGTH, TOO-LONG, OUT-OF-TURN, MISALIGNED, NO-ROW, NOT-NOW}
+use Rattle.rules.specs.Answers.{RESERVED, WRONG-LENGTH, TOO-LONG, OUT-OF-TURN, NO-ROW, NOT-NOW}
 use Rattle.port.specs.Step.{Quiet, in-poll, interrupt-poll, offer-reply, set-status, front-panel, bus-suspend}
 use Rattle.port.specs.Step.{Call, setup-packet, out-packet, take-into, bus-reset, quiet}
 
@@ -11,9 +11,9 @@ use Rattle.port.specs.Step.{Call, setup-packet, out-packet, take-into, b
 abbrev pub bulk : List ℕ → List ℕ
 bulk more = UNSOUND ∷ UNCONFIGURED ∷ WRONG-SIZE ∷ HALTED ∷ WAIT ∷ more
 
--- "a header then goes 6, 7, 8, 9, 10, 13, 12, 11, 14, and a continuing packet 6, 11, 14"
+-- "a header then goes 6, 7, 8, 9, 10, 13, 12, 11 .., and a continuing packet 6, 11 ..": 02, request 2, takes 14 off both
 abbrev pub faults : List ℕ
-faults = NOT-IN-FOURS ∷ SHORT-HEADER ∷ BAD-TAG ∷ UNKNOWN-MSGID ∷ RESERVED ∷ OUT-OF-TURN ∷ TOO-LONG ∷ WRONG-LENGTH ∷ MISALIGNED ∷ []
+faults = NOT-IN-FOURS ∷ SHORT-HEADER ∷ BAD-TAG ∷ UNKNOWN-MSGID ∷ RESERVED ∷ OUT-OF-TURN ∷ TOO-LONG ∷ WRONG-LENGTH ∷ []
 
 -- the ten calls, whatever their input
 pub data Kind : Type 0 where

@@ -8,9 +8,8 @@ use mathlib.Core.List.{List, []}
 use lib.ListN.{length}
 use Rattle.rules.specs.Choice.{_=ᵇ_, _≠ᵇ_, _<ᵇ_, no, _or_, _and_, pick, _⇒_∣_, decide}
 use Rattle.rules.specs.Answers.{DONE, UNCONFIGURED, WRONG-SIZE, HALTED, WAIT, NOT-IN-FOURS, WRONG-LENGTH}
-use Rattle.rules.specs.Answers.{TOO-LONG, OUT-OF-TURN, MISALIGNED, TELLS-TRIGGER, only, done}
+use Rattle.rules.specs.Answers.{TOO-LONG, OUT-OF-TURN, TELLS-TRIGGER, only, done}
 use Rattle.rules.specs.declared.verdict.Verdict.{Verdict}
-use Rattle.wire.specs.Bytes.{zeros}
 use Rattle.rules.specs.Flags.{OFF}
 use Rattle.wire.specs.Header.{HEADER, notInFours, aligned, readHeader}
 use Rattle.wire.specs.declared.types.Header.{Header}
@@ -33,23 +32,16 @@ use Rattle.port.specs.declared.types.Outcome.the-variants.{Keep, Halt, D
 abbrev pub wrongLength : ℕ → ℕ → ℕ → Bool
 wrongLength p n due = due <ᵇ n or (n <ᵇ due and n <ᵇ p)
 
--- "alignment byte not 0 (house)"
-abbrev pub alignment : List ℕ → ℕ → List (Bool × ℕ)
-alignment s at = no (zeros s at (length s)) ⇒ MISALIGNED ∣ []
-
--- a packet that brings, from its byte `from` on, what is left of a transfer: `left` data bytes and "0 to 3 alignment bytes"
-abbrev pub fitRules : ℕ → List ℕ → ℕ → ℕ → List (Bool × ℕ)
-fitRules p s from left = wrongLength p (length s) (from + aligned left) ⇒ WRONG-LENGTH ∣ alignment s (from + left)
-
--- ** a continuing packet: "6, 11, 14"
+-- ** a continuing packet: "6, 11". What is left of its transfer is `left` data bytes and "0 to 3 alignment bytes up to a multiple of 4", which "may be
+-- anything" (02, request 2)
 
 abbrev pub moreRules : ℕ → ℕ → List ℕ → List (Bool × ℕ)
-moreRules p left s = notInFours s ⇒ NOT-IN-FOURS ∣ fitRules p s 0 left
+moreRules p left s = notInFours s ⇒ NOT-IN-FOURS ∣ wrongLength p (length s) (aligned left) ⇒ WRONG-LENGTH ∣ []
 
 unfoldable pub more : ℕ → ℕ → List ℕ → Outcome
 more p left s = decide Halt (moreRules p left s) (Data (min left (length s)))
 
--- ** a header: "13, 12, 11, 14" once it is read
+-- ** a header: "13, 12, 11" once it is read
 
 -- "Out of turn (house) is a REQUEST while an IN transfer is open, or a REQUEST or TRIGGER while a message is unfinished"
 abbrev pub requestOutOfTurn : BulkOut → BulkIn → Bool
@@ -70,7 +62,7 @@ abbrev pub headerRules : State → List ℕ → Header → List (Bool × ℕ)
 headerRules st s h =
     outOfTurn (outOf st) (inOf st) h ⇒ OUT-OF-TURN ∣
     STORE <ᵇ outOf st .message .held + dataLength h ⇒ TOO-LONG ∣
-    fitRules (packetSize st) s HEADER (dataLength h)
+    wrongLength (packetSize st) (length s) (HEADER + aligned (dataLength h)) ⇒ WRONG-LENGTH ∣ []
 
 unfoldable pub headerSays : State → List ℕ → Read → Outcome
 headerSays st s (Fault number) = Halt number

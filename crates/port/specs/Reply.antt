@@ -92,7 +92,7 @@ unread = record { due = 0; unsent = []; line = shut }
 abbrev pub dueAfter : ℕ → List ℕ → ℕ
 dueAfter due s = first (0 <ᵇ due ⇒ due - length s ∣ at s 0 =ᵇ 1 ⇒ fourAt s 4 - (length s - 12) ∣ []) 0
 
--- a packet: 0 accepts it, and a REQUEST between transfers opens one of Bulk-IN; 6 to 14 halt Bulk-OUT
+-- a packet: 0 accepts it, and a REQUEST between transfers opens one of Bulk-IN; 6 to 13 halt Bulk-OUT
 abbrev pub requestsNow : ℕ → List ℕ → Bool
 requestsNow due s = due =ᵇ 0 and at s 0 =ᵇ 2
 
@@ -100,7 +100,7 @@ unfoldable pub afterPacket : Reader → List ℕ → ℕ → Reader
 afterPacket r s n =
     first
     (n =ᵇ 0 ⇒ record { due = dueAfter (r .due) s; unsent = r .unsent; line = pick (requestsNow (r .due) s) (asked (askedBy s)) (r .line) } ∣
-    5 <ᵇ n and n <ᵇ 15 ⇒ record { due = 0; unsent = r .unsent; line = r .line } ∣ [])
+    5 <ᵇ n and n <ᵇ 14 ⇒ record { due = 0; unsent = r .unsent; line = r .line } ∣ [])
     r
 
 -- what is left to come of a transfer

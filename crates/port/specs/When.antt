@@ -6,9 +6,9 @@ use mathlib.Core.Path.{_≡_}
 use mathlib.Core.Bool.{false}
 use mathlib.Core.List.{List}
 use mathlib.Core.Logic.{_⊎_}
-use lib.ListN.{length, drop}
+use lib.ListN.{length}
 use Rattle.rules.specs.When.{Not, _when_∣_, else-0}
-use Rattle.wire.specs.When.{fourAt, Zeros, Commands, Requests, Triggers, NotInFours, headerGiven, rows, Matches}
+use Rattle.wire.specs.When.{fourAt, Commands, Requests, Triggers, NotInFours, headerGiven, rows, Matches}
 use Rattle.wire.specs.declared.types.Setup.{Setup}
 use Rattle.wire.specs.declared.types.Setup.the-variants.{Configure, Asks, NoRow}
 use Rattle.port.specs.Device.{Device, Result, isSound}
@@ -82,7 +82,7 @@ Waits u = Not (interruptSide u .waiting .notify1 ≡ 0)
 
 -- ** a Bulk-OUT packet
 
--- "0 to 3 alignment bytes up to a multiple of 4"
+-- "0 to 3 alignment bytes up to a multiple of 4": their number is a part of the length, and no condition looks at their value
 abbrev pub padded : ℕ → ℕ
 padded n = n + (4 - n % 4) % 4
 
@@ -102,25 +102,19 @@ OutOfTurn u s = (Requests s × InOpen u) ⊎ ((Requests s ⊎ Triggers s) × Mes
 abbrev pub TooLong : Device → List ℕ → Type 0
 TooLong u s = Commands s × (1024 < outSide u .message .held + fourAt s 4)
 
--- 14: "alignment byte not 0": a byte behind the data
-abbrev pub Misaligned : List ℕ → ℕ → Type 0
-Misaligned s end = Not (Zeros (drop end s))
-
--- "a header then goes 6, 7, 8, 9, 10, 13, 12, 11, 14"
+-- "a header then goes 6, 7, 8, 9, 10, 13, 12, 11"; 02, request 2: "14 is no longer given"
 abbrev pub ofHeader : Device → List ℕ → ℕ → Type 0
 ofHeader u s =
     headerGiven s
     (13 when OutOfTurn u s ∣
     12 when TooLong u s ∣
-    11 when HeaderWrongLength u s ∣
-    14 when (Commands s × Misaligned s (12 + fourAt s 4)) ∣ else-0)
+    11 when HeaderWrongLength u s ∣ else-0)
 
--- "and a continuing packet 6, 11, 14"
+-- "and a continuing packet 6, 11"
 abbrev pub ofMore : Device → List ℕ → ℕ → Type 0
 ofMore u s =
     6 when NotInFours s ∣
-    11 when WrongLength u s (padded (outSide u .transfer .left)) ∣
-    14 when Misaligned s (outSide u .transfer .left) ∣ else-0
+    11 when WrongLength u s (padded (outSide u .transfer .left)) ∣ else-0
 
 -- a continuing packet where a transfer is open; else a header, but "Between transfers an empty packet is answered 0"
 abbrev pub ofPacket : Device → List ℕ → ℕ → Type 0

@@ -241,7 +241,7 @@ module _ (u : Device) (stored : Stored u) (h : Sound (u .state)) where
       (outcome-ways (u .state) s (Outs s) (record {
         keeps = (λ _. keep-agrees s _, (λ _. keep-agrees s _, (λ _. keep-agrees s _, (λ _. keep-agrees s _, tt))));
         empty = λ _. keep-agrees s DONE;
-        halts = λ _. (halt-agrees s _, (halt-agrees s _, (halt-agrees s _, (halt-agrees s _, (halt-agrees s _, (halt-agrees s _, (halt-agrees s _, (halt-agrees s _, (halt-agrees s _, tt)))))))));
+        halts = λ _. (halt-agrees s _, (halt-agrees s _, (halt-agrees s _, (halt-agrees s _, (halt-agrees s _, (halt-agrees s _, (halt-agrees s _, (halt-agrees s _, tt))))))));
         continues = λ _. data-agrees s _ (omega arith);
         heads = λ x _. head-agrees s x _ (let l = length-drop HEADER s in omega arith);
       }))

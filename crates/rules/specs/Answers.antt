@@ -5,7 +5,7 @@ use mathlib.Core.List.{List, [], _∷_}
 use Rattle.rules.specs.Choice.{pick, _=ᵇ_}
 use Rattle.rules.specs.declared.verdict.Verdict.{Verdict}
 
--- ** 01, "What each number returns and leaves": given when
+-- ** 01, "What each number returns and leaves": given when. 14 is free: 02, request 2, "14 is no longer given"
 
 abbrev pub DONE : ℕ
 DONE = 0
@@ -49,9 +49,6 @@ TOO-LONG = 12
 abbrev pub OUT-OF-TURN : ℕ
 OUT-OF-TURN = 13
 
-abbrev pub MISALIGNED : ℕ
-MISALIGNED = 14
-
 abbrev pub NO-ROW : ℕ
 NO-ROW = 15
 
@@ -79,7 +76,6 @@ table =
     ∷ (WRONG-LENGTH, out-halted)
     ∷ (TOO-LONG, out-halted)
     ∷ (OUT-OF-TURN, out-halted)
-    ∷ (MISALIGNED, out-halted)
     ∷ (NO-ROW, unchanged)
     ∷ (NOT-NOW, unchanged)
     ∷ []

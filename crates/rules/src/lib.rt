@@ -30,8 +30,6 @@ pub const TOO_LONG: u8 = 12;
 
 pub const OUT_OF_TURN: u8 = 13;
 
-pub const MISALIGNED: u8 = 14;
-
 pub const NO_ROW: u8 = 15;
 
 pub const NOT_NOW: u8 = 16;

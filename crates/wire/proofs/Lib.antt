@@ -3,4 +3,5 @@ pub mod Bytes
 pub mod Fronts
 pub mod Lawful
 pub mod SetupLaws
+pub mod Twelve
 pub mod When

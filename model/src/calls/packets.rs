@@ -1,5 +1,6 @@
 //! Packets on Bulk-OUT, and the sizes and bytes in them.
 
+use crate::cells::alignment_bytes;
 use crate::traffic::Traffic;
 use crate::unit::{HEADER, STORE};
 
@@ -37,7 +38,7 @@ impl Traffic {
         let mut packet = self.header(1, size, u8::from(end), 0);
         let data = (size as usize).min(p - HEADER);
         packet.extend(self.data(data));
-        aligned(packet)
+        self.aligned(packet)
     }
 
     /// The next good packet of the open transfer.
@@ -45,7 +46,38 @@ impl Traffic {
         let transfer = self.player.unit.out_transfer.as_ref()?;
         let due = transfer.size - transfer.got;
         let p = self.player.unit.packet_size;
-        Some(aligned(self.data(due.min(p))))
+        let data = self.data(due.min(p));
+        Some(self.aligned(data))
+    }
+
+    /// A packet with its alignment bytes: 0 half of the time, else anything, first the values that none had yet.
+    fn aligned(&mut self, mut packet: Vec<u8>) -> Vec<u8> {
+        let zero = self.random.once_in(2);
+        for place in 0..packet.len().div_ceil(4) * 4 - packet.len() {
+            let value = self.coverage.alignment[place].missing(self.random.below(256)) as u8;
+            packet.push(if zero { 0 } else { self.random.pick(&[0, value, value, value]) });
+        }
+        packet
+    }
+
+    /// A good packet with an alignment byte that is not 0, where it has one.
+    pub fn with_old_bytes(&mut self, mut packet: Vec<u8>) -> Vec<u8> {
+        let count = alignment_bytes(&self.player.unit, &packet).len();
+        if count > 0 {
+            let at = packet.len() - self.random.between(1, count);
+            packet[at] = self.random.between(1, 255) as u8;
+        }
+        packet
+    }
+
+    /// A packet cut to a length, or with bytes too many: 0 half of the time, else anything.
+    pub fn resized(&mut self, mut packet: Vec<u8>, length: usize) -> Vec<u8> {
+        let zero = self.random.once_in(2);
+        packet.truncate(length);
+        while packet.len() < length {
+            packet.push(if zero { 0 } else { self.random.byte() });
+        }
+        packet
     }
 
     pub fn request_packet(&mut self, asked: u32, term_char: Option<u8>) -> Vec<u8> {
@@ -126,37 +158,20 @@ impl Traffic {
         }
     }
 
-    /// A continuing packet with 6, 11 or 14, or two of them.
-    pub fn damaged_continuing(&mut self, mut packet: Vec<u8>) -> Vec<u8> {
+    /// A continuing packet of a length around the right one, or any: mostly 6 or 11.
+    pub fn damaged_continuing(&mut self, packet: Vec<u8>) -> Vec<u8> {
         let p = self.player.unit.packet_size;
-        let Some(transfer) = &self.player.unit.out_transfer else { return packet };
-        let due = transfer.size - transfer.got;
-        let last = due <= p;
-        match self.random.below(10) {
-            0 if packet.len() > 4 => packet.truncate(packet.len() - 4),
-            1 if due > p - 4 => packet.truncate(p - 4),
-            2 => packet.resize((packet.len() + 4).min(p), 0),
-            3 => packet.resize(p, 0),
-            4 => packet.clear(),
-            5 => packet.truncate(packet.len() - self.random.between(1, 3)),
-            6 if packet.len() + 3 <= p => packet.resize(packet.len() + self.random.between(1, 3), 0),
-            choice if last && packet.len() > due => {
-                let at = self.random.between(due, packet.len() - 1);
-                packet[at] = self.random.pick(&[1, 0x80, 0xFF]);
-                let longer = match choice {
-                    7 => self.random.between(1, 4),
-                    _ => 0,
-                };
-                packet.resize((packet.len() + longer).min(p), 0);
-            }
-            _ => packet.resize(self.random.between(0, p), 0),
-        }
-        packet
+        let good = packet.len();
+        let length = match self.random.below(8) {
+            0 if good > 4 => good - 4,
+            1 if good > p - 4 => p - 4,
+            2 => (good + 4).min(p),
+            3 => p,
+            4 => 0,
+            5 => good - self.random.between(1, 3),
+            6 if good + 3 <= p => good + self.random.between(1, 3),
+            _ => self.random.between(0, p),
+        };
+        self.resized(packet, length)
     }
-}
-
-/// A packet with its alignment bytes.
-fn aligned(mut packet: Vec<u8>) -> Vec<u8> {
-    packet.resize(packet.len().div_ceil(4) * 4, 0);
-    packet
 }

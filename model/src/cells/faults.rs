@@ -1,57 +1,47 @@
 //! The faults of a packet on Bulk-OUT, each judged for itself: of a header, of a continuing packet, and the reserved places.
 
+use super::alignment_place;
 use crate::unit::{Unit, HEADER, STORE};
 
-/// "a header then goes 6, 7, 8, 9, 10, 13, 12, 11, 14"
-pub const FAULTS: [u8; 9] = [6, 7, 8, 9, 10, 13, 12, 11, 14];
-pub const FAULT_NAMES: [&str; 9] = ["6", "7", "8", "9", "10", "13", "12", "11", "14"];
+/// "a header then goes 6, 7, 8, 9, 10, 13, 12, 11", and then none: "14 is no longer given" (02, 2)
+pub const FAULTS: [u8; 8] = [6, 7, 8, 9, 10, 13, 12, 11];
+pub const FAULT_NAMES: [&str; 8] = ["6", "7", "8", "9", "10", "13", "12", "11"];
 
 /// Which pairs of faults one header can have. On the diagonal the fault is the only one.
 pub fn pair_allowed(row: usize, column: usize) -> bool {
     let seconds: &[u8] = match FAULTS[row] {
-        6 => &[6, 8, 9, 10, 13, 12, 11, 14],
+        6 => &[6, 8, 9, 10, 13, 12, 11],
         7 => &[7, 8, 9, 10, 13, 12],
-        8 => &[8, 9, 10, 13, 12, 11, 14],
+        8 => &[8, 9, 10, 13, 12, 11],
         // With an unknown MsgID only byte 3 is known to be reserved.
         9 => &[9, 10],
-        10 => &[10, 13, 12, 11, 14],
-        // 13 is about a REQUEST or a TRIGGER, 12 and 14 about a message.
+        10 => &[10, 13, 12, 11],
+        // 13 is about a REQUEST or a TRIGGER, 12 about a message.
         13 => &[13, 11],
-        12 => &[12, 11, 14],
-        11 => &[11, 14],
-        _ => &[14],
+        12 => &[12, 11],
+        _ => &[11],
     };
     seconds.contains(&FAULTS[column])
 }
 
 /// Every fault of a packet that begins a transfer, each judged for itself.
-pub fn header_faults(unit: &Unit, packet: &[u8]) -> [bool; 9] {
+pub fn header_faults(unit: &Unit, packet: &[u8]) -> [bool; 8] {
     let length = packet.len();
     let id = packet[0];
     let known = matches!(id, 1 | 2 | 128);
     let size = (length >= 8).then(|| u64::from(u32::from_le_bytes([packet[4], packet[5], packet[6], packet[7]])));
     let unfinished = unit.message_unfinished();
-    let mut aligned = None;
-    if let (1, Some(size)) = (id, size) {
-        aligned = Some((HEADER as u64 + size, HEADER as u64 + size.div_ceil(4) * 4));
-    }
     let reserved = if length >= HEADER && known {
         reserved_places(packet).iter().any(|&place| place) || (id != 128 && size == Some(0))
     } else {
         length >= 4 && packet[3] != 0
     };
     let wrong_length = length >= HEADER
-        && match (id, aligned) {
+        && match (id, alignment_place(unit, packet)) {
             (2 | 128, _) => length != HEADER,
-            (1, Some((_, end))) => length as u64 > end || (length < unit.packet_size && (length as u64) < end),
+            (_, Some(place)) => wrong_end(unit, length, place.end),
             _ => false,
         };
-    let alignment = match aligned {
-        Some((data_end, end)) if length >= HEADER => {
-            (HEADER..length).any(|at| at as u64 >= data_end && (at as u64) < end && packet[at] != 0)
-        }
-        _ => false,
-    };
     [
         length % 4 != 0,
         length == 4 || length == 8,
@@ -61,29 +51,27 @@ pub fn header_faults(unit: &Unit, packet: &[u8]) -> [bool; 9] {
         (id == 2 && (unit.in_transfer.is_some() || unfinished)) || (id == 128 && unfinished),
         id == 1 && size.is_some_and(|size| unit.held() as u64 + size > STORE as u64),
         wrong_length,
-        alignment,
     ]
 }
 
-/// Every fault of a packet that continues a transfer: 6, 11, 14.
-pub const CONTINUING_FAULTS: [&str; 3] = ["6", "11", "14"];
+/// A packet that goes on behind its alignment bytes, or is shorter than P and ends before them.
+fn wrong_end(unit: &Unit, length: usize, end: u64) -> bool {
+    length as u64 > end || (length < unit.packet_size && (length as u64) < end)
+}
 
-pub fn continuing_faults(unit: &Unit, packet: &[u8], due: usize) -> [bool; 3] {
-    let end = due.div_ceil(4) * 4;
+/// Every fault of a packet that continues a transfer: 6, 11.
+pub const CONTINUING: [u8; 2] = [6, 11];
+pub const CONTINUING_NAMES: [&str; 2] = ["6", "11"];
+
+pub fn continuing_faults(unit: &Unit, packet: &[u8]) -> [bool; 2] {
     let length = packet.len();
-    [
-        length % 4 != 0,
-        length > end || (length < unit.packet_size && length < end),
-        (due..length.min(end)).any(|at| packet[at] != 0),
-    ]
+    let wrong_length = alignment_place(unit, packet).is_some_and(|place| wrong_end(unit, length, place.end));
+    [length % 4 != 0, wrong_length]
 }
 
 pub fn continuing_allowed(row: usize, column: usize) -> bool {
     // A length that is no multiple of 4 is a wrong one too, so 6 is never alone.
-    matches!(
-        (CONTINUING_FAULTS[row], CONTINUING_FAULTS[column]),
-        ("6", "11" | "14") | ("11", "11" | "14") | ("14", "14")
-    )
+    matches!((CONTINUING[row], CONTINUING[column]), (6 | 11, 11))
 }
 
 pub const RESERVED_ROWS: [&str; 3] = ["DEV_DEP_MSG_OUT", "REQUEST", "TRIGGER"];

@@ -3,6 +3,7 @@
 //! All of it is told from a call and a unit, not from what the traffic meant to send. What the unit's rules say is
 //! written down here once more, each rule for itself, so that a slip in one of the two shows.
 
+mod alignment;
 mod boundaries;
 mod faults;
 mod interrupt_in;
@@ -12,6 +13,7 @@ mod points;
 mod remote;
 mod setup_rows;
 
+pub use alignment::*;
 pub use boundaries::*;
 pub use faults::*;
 pub use interrupt_in::*;

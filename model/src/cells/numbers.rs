@@ -20,10 +20,9 @@ pub const NUMBER_ROWS: [&str; 14] = [
     "more",
 ];
 
-pub const NUMBERS: [u8; 16] = [0, 2, 3, 4, 5, 6, 7, 8, 9, 10, 11, 12, 13, 14, 15, 16];
+pub const NUMBERS: [u8; 15] = [0, 2, 3, 4, 5, 6, 7, 8, 9, 10, 11, 12, 13, 15, 16];
 
-pub const NUMBER_NAMES: [&str; 16] =
-    ["0", "2", "3", "4", "5", "6", "7", "8", "9", "10", "11", "12", "13", "14", "15", "16"];
+pub const NUMBER_NAMES: [&str; 15] = ["0", "2", "3", "4", "5", "6", "7", "8", "9", "10", "11", "12", "13", "15", "16"];
 
 pub fn number_row(unit: &Unit, call: &Call) -> usize {
     match call {
@@ -47,8 +46,8 @@ pub fn number_allowed(row: usize, column: usize) -> bool {
     let numbers: &[u8] = match NUMBER_ROWS[row] {
         "power" => &[0, 3],
         "setup" => &[0, 3, 15],
-        "out, no transfer open" => &[0, 2, 3, 4, 5, 6, 7, 8, 9, 10, 11, 12, 13, 14],
-        "out, continuing" => &[0, 3, 6, 11, 14],
+        "out, no transfer open" => &[0, 2, 3, 4, 5, 6, 7, 8, 9, 10, 11, 12, 13],
+        "out, continuing" => &[0, 3, 6, 11],
         "in" | "in3" => &[0, 2, 3, 4, 5],
         "take" | "offer" => &[0, 2, 3, 16],
         "status" | "local" => &[0, 2],

@@ -16,20 +16,21 @@ pub fn remote_row(unit: &Unit) -> usize {
 }
 
 #[rustfmt::skip]
-pub const REMOTE_EVENTS: [&str; 20] = [
-    "MSG_OUT", "6 to 10", "12", "11, 14", "REQUEST", "TRIGGER", "GO_TO_LOCAL", "panel", "LOCKOUT", "REN 1", "REN 0",
-    "suspend", "reset", "CONFIG 0", "CONFIG 1", "CLEAR", "status", "READ_STATUS", "in3", "0x83 halt",
+pub const REMOTE_EVENTS: [&str; 21] = [
+    "MSG_OUT", "MSG_OUT, old bytes", "6 to 10", "12", "11", "REQUEST", "TRIGGER", "GO_TO_LOCAL", "panel", "LOCKOUT",
+    "REN 1", "REN 0", "suspend", "reset", "CONFIG 0", "CONFIG 1", "CLEAR", "status", "READ_STATUS", "in3", "0x83 halt",
 ];
 
-pub fn remote_event(kind: Kind, answered: &Answered) -> Option<usize> {
+pub fn remote_event(kind: Kind, old_bytes: bool, answered: &Answered) -> Option<usize> {
     let done = answered.number == Number::Done;
     let name = match kind {
+        Kind::OutMessage if done && old_bytes => "MSG_OUT, old bytes",
         Kind::OutMessage if done => "MSG_OUT",
         // A header that is refused moves no state but the halt, however late it is refused.
         Kind::OutMessage => match answered.number as u8 {
             6..=10 => "6 to 10",
             12 => "12",
-            11 | 14 => "11, 14",
+            11 => "11",
             _ => return None,
         },
         Kind::OutRequest if done => "REQUEST",

@@ -12,6 +12,7 @@ impl Coverage {
         let length = packet.len();
         let open = before.out_transfer.is_some();
         let empty = packet.is_empty();
+        self.observe_alignment(before, packet, number, after);
         self.boundaries(
             before,
             &[
@@ -59,31 +60,8 @@ impl Coverage {
                 (alone && length == p - 4 && end > length, "continuing packet of P - 4 where more is due"),
             ],
         );
-        if completed {
-            self.boundary(
-                before,
-                [
-                    "continuing packet, 0 alignment bytes",
-                    "continuing packet, 1 alignment byte",
-                    "continuing packet, 2 alignment bytes",
-                    "continuing packet, 3 alignment bytes",
-                ][end - due],
-            );
-        }
-        if number == 14 {
-            self.wrong_alignment(before, "continuing packet", &packet[due..]);
-        }
-        let present = continuing_faults(before, packet, due);
-        count_faults(&mut self.continuing_faults, &present, number, &[6, 11, 14]);
-    }
-
-    /// Where exactly one alignment byte is not 0.
-    fn wrong_alignment(&mut self, before: &Unit, packet: &str, alignment: &[u8]) {
-        let wrong: Vec<usize> = (0..alignment.len()).filter(|&at| alignment[at] != 0).collect();
-        if let [at] = wrong[..] {
-            let place = ["1st", "2nd", "3rd"][at];
-            self.boundary(before, &format!("{packet}, {place} alignment byte of {} wrong", alignment.len()));
-        }
+        let present = continuing_faults(before, packet);
+        count_faults(&mut self.continuing_faults, &present, number, &CONTINUING);
     }
 
     fn observe_header(&mut self, before: &Unit, packet: &[u8], answered: &Answered, after: &Unit) {
@@ -182,19 +160,5 @@ impl Coverage {
                 (lone(11) && length == p - 4 && end > length, "first packet of P - 4 where more is due"),
             ],
         );
-        if whole {
-            self.boundary(
-                before,
-                [
-                    "first packet, 0 alignment bytes",
-                    "first packet, 1 alignment byte",
-                    "first packet, 2 alignment bytes",
-                    "first packet, 3 alignment bytes",
-                ][end - HEADER - size],
-            );
-        }
-        if number == 14 {
-            self.wrong_alignment(before, "first packet", &packet[HEADER + size..]);
-        }
     }
 }

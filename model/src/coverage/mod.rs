@@ -1,5 +1,6 @@
 //! What the traffic of a comparison has touched, cell by cell.
 
+mod alignment;
 mod bulk_in;
 mod bulk_out;
 mod grid;
@@ -12,6 +13,7 @@ mod thermostat;
 
 use crate::cells::*;
 use crate::unit::STORE;
+use alignment::OldBytes;
 use grid::Grid;
 use std::collections::HashMap;
 use sweep::Sweep;
@@ -47,6 +49,8 @@ pub struct Coverage {
     pub in_counts: [Sweep; 2],
     /// A clear or a halt after so many packets of a transfer, in the order of `INTERRUPTIONS`.
     pub interrupted: Vec<[Sweep; 2]>,
+    /// A 1st, 2nd and 3rd alignment byte.
+    pub alignment: [Sweep; 3],
     pub tags: Sweep,
     pub ids_refused: Sweep,
     pub status_tags: Sweep,
@@ -55,6 +59,7 @@ pub struct Coverage {
     pub bytes_requested: Sweep,
     pub bytes_kept: Sweep,
     pub term_chars: Sweep,
+    old_bytes: OldBytes,
     /// How the packet that waits came to wait.
     origin: Option<Origin>,
     /// A request was kept behind the packet that waits, and a status byte with bit 6 off took it back.
@@ -110,8 +115,8 @@ impl Coverage {
             ),
             continuing_faults: Grid::new(
                 "continuing packet: fault answered x fault also there",
-                &CONTINUING_FAULTS,
-                &CONTINUING_FAULTS,
+                &CONTINUING_NAMES,
+                &CONTINUING_NAMES,
                 continuing_allowed,
             ),
             reserved: Grid::new(
@@ -138,6 +143,8 @@ impl Coverage {
                     Sweep::for_each_size(title, packets)
                 })
                 .collect(),
+            alignment: ALIGNMENT_PLACES
+                .map(|place| Sweep::new(&format!("values accepted of a {place} alignment byte"), 256)),
             tags: Sweep::new("tags accepted", 255),
             ids_refused: Sweep::new("MsgIDs that are 9", 253),
             status_tags: Sweep::new("READ_STATUS_BYTE tags polled on 0x83", 126),
@@ -146,6 +153,7 @@ impl Coverage {
             bytes_requested: Sweep::new("status bytes that a service request brings", 128),
             bytes_kept: Sweep::new("status bytes that a kept request brings", 128),
             term_chars: Sweep::new("TermChars that end a transfer", 256),
+            old_bytes: OldBytes::default(),
             origin: None,
             taken_back: false,
             kept_just_queued: false,

@@ -43,6 +43,7 @@ impl Coverage {
                 if let Some((row, column)) = self.remote_event.take() {
                     self.remote.hit(row, column);
                 }
+                self.observe_state(before);
             }
             return;
         };
@@ -56,7 +57,9 @@ impl Coverage {
             self.interrupt_points.hit(kind as usize, column);
         }
         self.observe_interrupt(before, kind, call, answered, after);
-        self.remote_event = remote_event(kind, answered).map(|column| (remote_row(before), column));
+        let old_bytes = matches!(call, Call::Out(packet) if has_old_bytes(before, packet));
+        self.observe_old_bytes(before, kind, old_bytes, answered, after);
+        self.remote_event = remote_event(kind, old_bytes, answered).map(|column| (remote_row(before), column));
         match call {
             Call::Setup(packet, buffer) => self.observe_setup(before, kind, packet, *buffer, answered),
             Call::Out(packet) => self.observe_out(before, packet, answered, after),

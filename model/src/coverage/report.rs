@@ -29,6 +29,7 @@ impl Coverage {
         let pairs = [&self.messages, &self.too_long, &self.replies, &self.closings, &self.out_counts, &self.in_counts];
         let mut sweeps: Vec<&Sweep> = pairs.into_iter().flatten().collect();
         sweeps.extend(self.interrupted.iter().flatten());
+        sweeps.extend(&self.alignment);
         sweeps.extend([
             &self.replies_refused,
             &self.tags,

@@ -21,7 +21,7 @@ impl Traffic {
         let p = self.player.unit.packet_size;
         let wanted = |fault: u8| fault == first || fault == second;
         let mut id = self.random.pick(&[1, 1, 2, 128]);
-        if wanted(12) || wanted(14) {
+        if wanted(12) {
             id = 1;
         }
         if wanted(13) {
@@ -36,28 +36,20 @@ impl Traffic {
                 self.transfer(2, false);
             }
         }
-        if wanted(12) && wanted(14) {
-            self.transfer(1020, false);
-        } else if wanted(12) && self.random.once_in(2) {
+        if wanted(12) && self.random.once_in(2) {
             let held = self.any_size();
             self.transfer(held as u32, false);
         }
         let held = self.player.unit.held() as u32;
         let mut packet = match id {
-            1 if wanted(12) && wanted(14) => self.message_packet(5, true),
             1 if wanted(12) => {
                 let size = match self.random.below(3) {
                     0 => self.random.pick(&HUGE),
                     1 => STORE as u32 + 1 - held,
                     _ => STORE as u32 + 100,
                 };
-                let mut packet = self.message_packet(size, true);
-                packet.resize(p, 0);
-                packet
-            }
-            1 if wanted(14) => {
-                let size = self.random.pick(&[1, 2, 3, 5, 6, 7, 9, 49]);
-                self.message_packet(size, true)
+                let packet = self.message_packet(size, true);
+                self.resized(packet, p)
             }
             1 => {
                 let size = self.random.between(1, p) as u32;
@@ -66,9 +58,6 @@ impl Traffic {
             2 => self.any_request(),
             _ => self.trigger_packet(),
         };
-        if wanted(14) {
-            *packet.last_mut().unwrap() = self.random.pick(&[1, 0x80]);
-        }
         if wanted(10) {
             let row = match id {
                 1 => 0,
@@ -92,20 +81,21 @@ impl Traffic {
             }
         }
         if wanted(11) {
-            match self.random.below(3) {
-                0 if packet.len() > HEADER && !wanted(14) => packet.truncate(packet.len() - 4),
-                1 => packet.resize(p, 0),
-                _ if packet.len() + 4 <= p => packet.extend_from_slice(&[0; 4]),
-                _ => packet.truncate(p - 4),
-            }
+            let length = match self.random.below(3) {
+                0 if packet.len() > HEADER => packet.len() - 4,
+                1 => p,
+                _ if packet.len() + 4 <= p => packet.len() + 4,
+                _ => p - 4,
+            };
+            packet = self.resized(packet, length);
         }
         if wanted(7) {
             packet.truncate(if wanted(12) { 8 } else { self.random.pick(&[4, 8]) });
         }
         if wanted(6) {
-            if wanted(11) || wanted(14) || (first != second && self.random.once_in(2) && packet.len() + 3 <= p) {
+            if wanted(11) || (first != second && self.random.once_in(2) && packet.len() + 3 <= p) {
                 let longer = (packet.len() + self.random.between(1, 3)).min(p - 1);
-                packet.resize(longer, 0);
+                packet = self.resized(packet, longer);
             } else {
                 packet.truncate(self.random.pick(if wanted(12) { &[9, 10, 11] } else { &[5, 6, 7, 9, 10, 11] }));
             }
@@ -132,12 +122,9 @@ impl Traffic {
         let p = self.player.unit.packet_size;
         let packet = match self.random.below(29) {
             22..=26 => {
-                // One alignment byte that is not 0.
+                // Alignment bytes, whatever they are.
                 let size = self.random.between(0, 3) * 4 + self.random.between(1, 3);
-                let mut packet = self.message_packet(size as u32, true);
-                let at = self.random.between(HEADER + size, packet.len() - 1);
-                packet[at] = self.random.pick(&[1, 0x80, 0xFF]);
-                packet
+                self.message_packet(size as u32, true)
             }
             3 => {
                 let size = self.random.between(1, p - HEADER);
@@ -147,15 +134,14 @@ impl Traffic {
             }
             4 => {
                 let size = self.random.between(1, p - HEADER - 4);
-                let mut packet = self.message_packet(size as u32, true);
-                packet.extend_from_slice(&[0; 4]);
-                packet
+                let packet = self.message_packet(size as u32, true);
+                let length = packet.len() + 4;
+                self.resized(packet, length)
             }
             5 => {
                 let size = self.random.between(1, p - HEADER - 4);
-                let mut packet = self.message_packet(size as u32, true);
-                packet.resize(p, 0);
-                packet
+                let packet = self.message_packet(size as u32, true);
+                self.resized(packet, p)
             }
             6 => {
                 let size = self.random.between(p - HEADER - 3, STORE);
@@ -165,9 +151,8 @@ impl Traffic {
             }
             7 | 8 => {
                 let length = self.random.pick(&[16, p]);
-                let mut packet = if self.random.once_in(2) { self.any_request() } else { self.trigger_packet() };
-                packet.resize(length, 0);
-                packet
+                let packet = if self.random.once_in(2) { self.any_request() } else { self.trigger_packet() };
+                self.resized(packet, length)
             }
             9 => {
                 let mut packet = self.any_message();
@@ -183,15 +168,15 @@ impl Traffic {
             12 => self.request_packet(0, None),
             13 => {
                 let size = self.random.pick(&HUGE);
-                let mut packet = self.message_packet(size, true);
-                packet.resize(self.random.pick(&[16, p]), 0);
-                packet
+                let packet = self.message_packet(size, true);
+                let length = self.random.pick(&[16, p]);
+                self.resized(packet, length)
             }
             14 => self.message_packet(STORE as u32 + 1, true),
             15 => {
-                let mut packet = self.any_message();
-                packet.resize(p + self.random.pick(&[1, 4]), 0);
-                packet
+                let packet = self.any_message();
+                let length = p + self.random.pick(&[1, 4]);
+                self.resized(packet, length)
             }
             16 | 17 => {
                 let size = p - self.random.between(11, 13);

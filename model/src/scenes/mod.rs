@@ -1,6 +1,7 @@
 //! Scenes of the traffic: what hosts and thermostats do, and what they had better not. Which scene comes next, and how it
 //! begins.
 
+mod alignment;
 mod breaks;
 mod headers;
 mod hosts;
@@ -44,7 +45,7 @@ impl Traffic {
         if !self.random.once_in(6) {
             self.tidy();
         }
-        match self.random.below(108) {
+        match self.random.below(114) {
             0..=6 => self.host_scene(),
             7..=14 => self.message_sizes_scene(),
             15..=22 => self.reply_sizes_scene(),
@@ -66,7 +67,8 @@ impl Traffic {
             95..=96 => self.unconfigured_scene(),
             97..=99 => self.wander_scene(),
             100..=103 => self.interrupt_scene(),
-            _ => self.interrupt_events_scene(),
+            104..=107 => self.interrupt_events_scene(),
+            _ => self.old_bytes_scene(),
         }
     }
 

@@ -40,6 +40,13 @@ impl Traffic {
                         let packet = traffic.any_message();
                         traffic.send(Call::Out(packet));
                     }
+                    "MSG_OUT, old bytes" => {
+                        let size = traffic.random.pick(&[1, 2, 3, 5, 6, 7, 49]);
+                        let end = traffic.random.once_in(2);
+                        let packet = traffic.message_packet(size, end);
+                        let packet = traffic.with_old_bytes(packet);
+                        traffic.send(Call::Out(packet));
+                    }
                     "6 to 10" => {
                         let mut packet = traffic.any_message();
                         match traffic.random.below(3) {
@@ -53,13 +60,10 @@ impl Traffic {
                         let packet = traffic.message_packet(STORE as u32 + 1, true);
                         traffic.send(Call::Out(packet));
                     }
-                    "11, 14" => {
-                        let mut packet = traffic.message_packet(6, true);
-                        if traffic.random.once_in(2) {
-                            *packet.last_mut().unwrap() = 1;
-                        } else {
-                            packet.truncate(16);
-                        }
+                    "11" => {
+                        let packet = traffic.message_packet(6, true);
+                        let length = traffic.random.pick(&[16, 24]);
+                        let packet = traffic.resized(packet, length);
                         traffic.send(Call::Out(packet));
                     }
                     event => {

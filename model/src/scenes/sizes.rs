@@ -79,14 +79,13 @@ impl Traffic {
                     traffic.transfer(size, true);
                 }
                 4 => {
-                    // 12 before 14, and before 11.
+                    // 12 with old bytes, and 12 before 11.
                     let size = room + 1 + traffic.random.below(4) as u32;
-                    let mut packet = traffic.message_packet(size, true);
-                    if size % 4 != 0 {
-                        *packet.last_mut().unwrap() = 1;
-                    }
+                    let packet = traffic.message_packet(size, true);
+                    let mut packet = traffic.with_old_bytes(packet);
                     if traffic.random.once_in(2) {
-                        packet.extend_from_slice(&[0; 4]);
+                        let length = packet.len() + 4;
+                        packet = traffic.resized(packet, length);
                     }
                     traffic.say(Call::Out(packet));
                 }

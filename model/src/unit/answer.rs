@@ -1,6 +1,6 @@
 //! What a call is answered: its number, what is told beside it, and how many bytes it wrote.
 
-/// "What each number returns and leaves"
+/// "What each number returns and leaves"; "14 is no longer given" (02, 2), and the others keep theirs.
 #[derive(Clone, Copy, Debug, PartialEq, Eq)]
 pub enum Number {
     Done = 0,
@@ -16,7 +16,6 @@ pub enum Number {
     WrongLength = 11,
     TooLong = 12,
     OutOfTurn = 13,
-    Misaligned = 14,
     NoRow = 15,
     NotNow = 16,
 }

@@ -29,7 +29,7 @@ impl Unit {
         };
         match result {
             Ok(tells) => Answer { tells, ..Answer::done() },
-            // 6 to 14 leave "OUT halted"; a refused header "moves neither tag nor state but for the halt".
+            // 6 to 13 leave "OUT halted"; a refused header "moves neither tag nor state but for the halt".
             Err(number) => {
                 self.halt_bulk_out();
                 Answer::refused(number)
@@ -37,7 +37,7 @@ impl Unit {
         }
     }
 
-    /// A packet that begins a transfer, after 6 to 10: 13, 12, 11, 14.
+    /// A packet that begins a transfer, after 6 to 10: 13, 12, 11.
     fn header(&mut self, packet: &[u8]) -> Result<Option<Tells>, Number> {
         match Header::read(packet)? {
             Header::Message { tag, size, end } => {
@@ -50,12 +50,14 @@ impl Unit {
                     return Err(Number::TooLong);
                 }
                 let size = size as usize;
-                let data = self.data_of(packet, HEADER, size)?.to_vec();
-                // Accepted.
-                self.out_recent = tag;
-                self.headed();
+                let (data, alignment) = self.parts_of(packet, HEADER, size)?;
+                // Accepted, whatever the alignment bytes are: the tag moves, and the remote/local state.
+                if !self.goes_wrong(Fault::TagKeptOverAlignment, alignment) {
+                    self.out_recent = tag;
+                    self.headed();
+                }
                 self.out_transfer = Some(OutTransfer { tag, size, got: 0, end });
-                self.receive(&data);
+                self.receive(data, alignment);
                 Ok(None)
             }
             Header::Request { tag, asked, term_char } => {
@@ -85,7 +87,7 @@ impl Unit {
         }
     }
 
-    /// "a continuing packet 6, 11, 14"
+    /// "a continuing packet 6, 11", and then none: "14 is no longer given" (02, 2).
     fn continuing(&mut self, packet: &[u8]) -> Result<Option<Tells>, Number> {
         if packet.len() % 4 != 0 {
             return Err(Number::NotInFours);
@@ -93,13 +95,19 @@ impl Unit {
         // "Between transfers an empty packet is answered 0 ..; inside one it is 11."
         let Some(transfer) = &self.out_transfer else { unreachable!("a continuing packet has an open transfer") };
         let due = transfer.size - transfer.got;
-        let data = self.data_of(packet, 0, due)?.to_vec();
-        self.receive(&data);
+        let (data, alignment) = self.parts_of(packet, 0, due)?;
+        self.receive(data, alignment);
         Ok(None)
     }
 
-    /// The data bytes of a packet that has them from `start` on, `due` bytes of the transfer being due: 11 and 14.
-    fn data_of<'packet>(&self, packet: &'packet [u8], start: usize, due: usize) -> Result<&'packet [u8], Number> {
+    /// The data bytes of a packet that has them from `start` on, `due` bytes of the transfer being due, and the alignment
+    /// bytes behind them: 11.
+    fn parts_of<'packet>(
+        &self,
+        packet: &'packet [u8],
+        start: usize,
+        due: usize,
+    ) -> Result<(&'packet [u8], &'packet [u8]), Number> {
         let body = &packet[start..];
         // "TransferSize data bytes and 0 to 3 alignment bytes up to a multiple of 4"
         let aligned = due.div_ceil(4) * 4;
@@ -108,19 +116,29 @@ impl Unit {
             return Err(Number::WrongLength);
         }
         let (data, alignment) = body.split_at(due.min(body.len()));
-        if alignment.iter().any(|&byte| byte != 0) {
-            return Err(Number::Misaligned);
+        // "Alignment bytes may be anything." (02, 2)
+        if self.goes_wrong(Fault::AlignmentRefused, alignment) {
+            return Err(Number::WrongLength);
         }
-        Ok(data)
+        Ok((data, alignment))
     }
 
-    /// Data of the open transfer: it goes to the message, and the transfer may be complete with it.
-    fn receive(&mut self, data: &[u8]) {
+    /// Whether a fault in what becomes of alignment bytes is switched on, and one of these is not 0.
+    fn goes_wrong(&self, fault: Fault, alignment: &[u8]) -> bool {
+        self.fault == Some(fault) && alignment.iter().any(|&byte| byte != 0)
+    }
+
+    /// Data of the open transfer: it goes to the message, and the transfer may be complete with it. The alignment bytes
+    /// "reach no message and no count" (02, 2).
+    fn receive(&mut self, data: &[u8], alignment: &[u8]) {
         let mut bytes = match std::mem::replace(&mut self.message, Message::None) {
             Message::Unfinished(bytes) => bytes,
             _ => Vec::new(),
         };
         bytes.extend_from_slice(data);
+        if self.goes_wrong(Fault::AlignmentHandedOver, alignment) {
+            bytes.extend_from_slice(alignment);
+        }
         let Some(transfer) = &mut self.out_transfer else { unreachable!("data comes in an open transfer") };
         transfer.got += data.len();
         let complete = transfer.got == transfer.size;

@@ -13,15 +13,24 @@ pub enum Fault {
     KeptRequestLost,
     /// A status byte with bit 6 off takes back the packet of the service request before it.
     PacketWithdrawn,
+    /// An alignment byte that is not 0 is taken for one too many: 11.
+    AlignmentRefused,
+    /// Alignment bytes are handed over with the message, behind the data, where one of them is not 0.
+    AlignmentHandedOver,
+    /// A header with an alignment byte that is not 0 moves neither the tag nor the remote/local state.
+    TagKeptOverAlignment,
 }
 
 impl Fault {
-    pub const ALL: [Fault; 5] = [
+    pub const ALL: [Fault; 8] = [
         Fault::LengthOffByOne,
         Fault::TagKeptOverClear,
         Fault::HalfKeptAfterHalt,
         Fault::KeptRequestLost,
         Fault::PacketWithdrawn,
+        Fault::AlignmentRefused,
+        Fault::AlignmentHandedOver,
+        Fault::TagKeptOverAlignment,
     ];
 
     pub fn name(self) -> &'static str {
@@ -31,6 +40,9 @@ impl Fault {
             Fault::HalfKeptAfterHalt => "half-kept-after-halt",
             Fault::KeptRequestLost => "kept-request-lost",
             Fault::PacketWithdrawn => "packet-withdrawn",
+            Fault::AlignmentRefused => "alignment-refused",
+            Fault::AlignmentHandedOver => "alignment-handed-over",
+            Fault::TagKeptOverAlignment => "tag-kept-over-alignment",
         }
     }
 

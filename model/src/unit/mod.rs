@@ -1,5 +1,5 @@
-//! The unit of document 01 and of request 1 of document 02: what it holds, power-on, and what several calls lean on. Each
-//! kind of call has a file of its own.
+//! The unit of document 01 and of requests 1 and 2 of document 02: what it holds, power-on, and what several calls lean
+//! on. Each kind of call has a file of its own.
 //!
 //! Written from the papers and the readings of them, and from nothing else. Words in quotation marks are the papers'.
 //! No call makes a unit unsound, so nothing here answers 1; `sound` is there to try that.

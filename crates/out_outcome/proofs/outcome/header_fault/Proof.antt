@@ -1,5 +1,5 @@
-use Rattle.out_outcome.proofs.Outcomes.{header-long, header-fits}
-use Rattle.rules.proofs.Choice.{picks}
+use Rattle.out_outcome.proofs.Outcomes.{header-long, header-wrong, header-fits}
+use Rattle.rules.proofs.Choice.{picks, told-true, told-false}
 use native.Mathlib.Omega.{arith}
 use mathlib.Core.Path.{sym, _∙_}
 use borrow.Author.Needs.{needs}
@@ -20,11 +20,18 @@ header-fault-spec =
     let c3 = c .before .before .before in
     let a = c3 .before .before .before .before .before .before .args in
     header-long (a .st) (a .s .now) (a .h) (sym (c3 .before .before .out-of-turn .ensures) ∙ c3 .before .if1 .left) (let e = c3 .data-length .ensures in omega (arith, c .if3 .taken)))
-    (λ c. search needs) (λ c κs. search needs) (λ c κs. search needs)
+    (λ c. search needs) (λ c κs. search needs) (λ c. search needs) (λ c κs. search needs) (λ c κs. search needs)
     (λ c.
-    let c5 = c .before .before .before .before .before in
-    let e = c5 .data-length .ensures in
-    let a = c5 .before .before .before .before .before .before .args in
-    header-fits (a .st) (a .s .now) (a .h) (sym (c5 .before .before .out-of-turn .ensures) ∙ c5 .before .if1 .left) _
-    (omega (arith, c .before .before .if3 .left))
-    (rw (c .before .widened .ensures .0, e) at (c .fit .ensures))))
+    let c7 = c .before .before .before .before .before .before .before in
+    let e = c7 .data-length .ensures in
+    let a = c7 .before .before .before .before .before .before .args in
+    header-wrong (a .st) (a .s .now) (a .h) (sym (c7 .before .before .out-of-turn .ensures) ∙ c7 .before .if1 .left)
+    (omega (arith, c .before .before .before .before .if3 .left))
+    (told-true _ _ (rw (c .before .before .widened .ensures .0, c .before .before .before .aligned .ensures, e) at (c .before .wrong-length .ensures)) (c .if4 .taken)))
+    (λ c.
+    let c7 = c .before .before .before .before .before .before .before in
+    let e = c7 .data-length .ensures in
+    let a = c7 .before .before .before .before .before .before .args in
+    header-fits (a .st) (a .s .now) (a .h) (sym (c7 .before .before .out-of-turn .ensures) ∙ c7 .before .if1 .left)
+    (omega (arith, c .before .before .before .before .if3 .left))
+    (told-false _ _ (rw (c .before .before .widened .ensures .0, c .before .before .before .aligned .ensures, e) at (c .before .wrong-length .ensures)) (c .if4 .left))))
