@@ -37,7 +37,7 @@ use Rattle.wire.proofs.Lawful.{good-lawful}
 
 -- ** bytes that are all 0
 
-pub all-zeros : (t : List ℕ) → Tells (allZero t) (Zeros t)
+all-zeros : (t : List ℕ) → Tells (allZero t) (Zeros t)
 all-zeros [] = record { held = λ _. tt; failed = λ e. absurd (true≢false e) }
 all-zeros (zero ∷ t) = in-words (λ z. (refl, z)) (λ z. z .1) (all-zeros t)
 all-zeros (suc n ∷ t) = record { held = λ e. absurd (false≢true e); failed = λ _ z. let e = z .0 in omega arith }

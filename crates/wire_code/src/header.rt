@@ -1,5 +1,4 @@
 // Reading a Bulk-OUT header: what it says, or its first fault; and writing a Bulk-IN header.
-use crate::numbers::all_zero;
 use crate::numbers::bytes_of;
 use crate::numbers::le_u32;
 use rules::BAD_TAG;
@@ -12,7 +11,7 @@ use wire::types::Read;
 ghost use mathlib.Core.Path.{_≡_};
 ghost use Prim.Native.Nat.{ℕ, _≤_};
 ghost use lib.ListN.{length};
-ghost use Rattle.wire.specs.Bytes.{into};
+ghost use Rattle.wire.specs.Bytes.{zeros, into};
 ghost use Rattle.wire.specs.Header.{HEADER, notInFours, readMessage, readRequest, readTrigger, readHeader, inHeader};
 
 // Bytes of a header.
@@ -33,6 +32,46 @@ pub const D0: u8 = 1;
 
 pub const D1: u8 = 2;
 
+// The last two bytes of a header are 0, the last three, and the last nine.
+fn two_zeros(s: &[u8]) -> bool
+    requires { ⌜ HEADER ≤ length (now s) ⌝ }
+    ensures { λ r. ⌜ r ≡ zeros (now (s .entry)) 10 HEADER ⌝ }
+{
+    if s[10] != 0 {
+        return false;
+    }
+    if s[11] != 0 {
+        return false;
+    }
+    true
+}
+
+fn three_zeros(s: &[u8]) -> bool
+    requires { ⌜ HEADER ≤ length (now s) ⌝ }
+    ensures { λ r. ⌜ r ≡ zeros (now (s .entry)) 9 HEADER ⌝ }
+{
+    if s[9] != 0 {
+        return false;
+    }
+    two_zeros(s)
+}
+
+fn nine_zeros(s: &[u8]) -> bool
+    requires { ⌜ HEADER ≤ length (now s) ⌝ }
+    ensures { λ r. ⌜ r ≡ zeros (now (s .entry)) 3 HEADER ⌝ }
+{
+    if s[3] != 0 {
+        return false;
+    }
+    if le_u32(s, 4) != 0 {
+        return false;
+    }
+    if s[8] != 0 {
+        return false;
+    }
+    three_zeros(s)
+}
+
 // DEV_DEP_MSG_OUT.
 fn read_message(s: &[u8]) -> Read
     requires { ⌜ HEADER ≤ length (now s) ⌝ }
@@ -49,7 +88,7 @@ fn read_message(s: &[u8]) -> Read
     if D0 < end {
         return Read::Fault { number: RESERVED };
     }
-    if all_zero(s, 9, HEADER) {
+    if three_zeros(s) {
         return Read::Good {
             header: Header::Message {
                 tag: s[1],
@@ -73,7 +112,7 @@ fn read_request(s: &[u8]) -> Read
     if size == 0 {
         return Read::Fault { number: RESERVED };
     }
-    if !all_zero(s, 10, HEADER) {
+    if !two_zeros(s) {
         return Read::Fault { number: RESERVED };
     }
     let bits = s[8];
@@ -103,7 +142,7 @@ fn read_trigger(s: &[u8]) -> Read
     requires { ⌜ HEADER ≤ length (now s) ⌝ }
     ensures { λ r. ⌜ r ≡ readTrigger (now (s .entry)) ⌝ }
 {
-    if all_zero(s, 3, HEADER) {
+    if nine_zeros(s) {
         return Read::Good {
             header: Header::Trigger { tag: s[1] },
         };

@@ -1,8 +1,8 @@
-// Numbers of two and four bytes, least significant first, and runs of zero bytes.
+// Numbers of two and four bytes, least significant first.
 ghost use mathlib.Core.Path.{_≡_};
 ghost use Prim.Native.Nat.{ℕ, _+_, _/_, _%_, _<_, _≤_, min};
 ghost use lib.ListN.{length};
-ghost use Rattle.wire.specs.Bytes.{number2, number4, bytes4, zeros};
+ghost use Rattle.wire.specs.Bytes.{number2, number4, bytes4};
 
 fn wide(x: u8) -> u32
     ensures { λ r. ⌜ (r ≡ x) × (r < 256) ⌝ }
@@ -45,21 +45,6 @@ pub fn le_u32(s: &[u8], at: usize) -> u32
     let low = le_u16(s, at);
     let high = le_u16(s, at + 2);
     low + 65536 * high
-}
-
-// Whether the bytes from `a` up to, and not with, `e` are all 0.
-pub fn all_zero(s: &[u8], a: usize, e: usize) -> bool
-    requires { ⌜ (a ≤ e) × (e ≤ length (now s)) ⌝ }
-    ensures { λ r. ⌜ r ≡ zeros (now (s .entry)) a e ⌝ }
-{
-    let mut i = a;
-    while i < e {
-        if s[i] != 0 {
-            return false;
-        }
-        i += 1;
-    }
-    true
 }
 
 // The low byte of a number, and the one above it.

@@ -18,12 +18,12 @@ read-request-spec =
     (tie.spec
     (λ c. search needs) (λ c. search picks depth 14) (λ c κs. search needs) (λ c. search picks depth 14) (λ c κs. search needs)
     (λ c. decide-all (λ (r : Read). Fault RESERVED ≡ r) Fault (requestRules _) _ (refl, (refl, (refl, (refl, tt))))
-    (λ n. absurd (true≢false (sym (not-no _ (n .1 .1 .1 .0)) ∙ sym (c .before .all-zero .ensures) ∙ not-true _ (c .if3 .taken)))))
+    (λ n. absurd (true≢false (sym (not-no _ (n .1 .1 .1 .0)) ∙ sym (c .before .two-zeros .ensures) ∙ not-true _ (c .if3 .taken)))))
     (λ c. search needs) (λ c. search needs) (λ c. search needs) (λ c. search needs)
     (λ c.
-    let zeros-there = sym (c .before .before .before .before .all-zero .ensures) ∙ not-false _ (c .before .before .before .if3 .left) in
+    let zeros-there = sym (c .before .before .before .before .two-zeros .ensures) ∙ not-false _ (c .before .before .before .if3 .left) in
     rw (← (c .before .before .before .before .before .before .le-u32 .ensures)) (search picks depth 14))
     (λ c.
-    let zeros-there = sym (c .before .before .before .before .before .all-zero .ensures) ∙ not-false _ (c .before .before .before .before .if3 .left) in
+    let zeros-there = sym (c .before .before .before .before .before .two-zeros .ensures) ∙ not-false _ (c .before .before .before .before .if3 .left) in
     rw (← (c .before .before .before .before .before .before .before .le-u32 .ensures)) (search picks depth 14))
     (λ c. search picks depth 14))
