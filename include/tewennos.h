@@ -25,8 +25,8 @@ extern "C" {
 #define TMC_FULL_SPEED 64u      /* the packet sizes */
 #define TMC_HIGH_SPEED 512u
 
-/* The numbers that a call is answered with: document 01's table. 6 to 13 halt Bulk-OUT, and 14 is free: no call gives it. The others but 0
-   leave all as it was, and write nothing, but for 3 at power-on, which makes a unit for packets of 64. */
+/* The numbers that a call is answered with: document 01's table; no call gives one that has no name here. 6 to 13 halt Bulk-OUT. The others
+   but 0 leave all as it was, and write nothing, but for 3 at power-on, which makes a unit for packets of 64. */
 enum tmc_number {
     TMC_NUMBER_DONE = 0,
     TMC_NUMBER_UNSOUND = 1, /* the unit is none that these functions write: overwritten, or never powered on */

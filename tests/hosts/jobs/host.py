@@ -177,6 +177,12 @@ class Host:
         data = text.encode()
         self.out(f"message {quoted(data)}", self.header(MESSAGE, len(data), 1, inverse) + data + bytes(-len(data) % 4))
 
+    def send_over(self, text, old):
+        """A message with what was left of an older one behind it, up to a multiple of four."""
+        data = text.encode()
+        left = old.encode()[: -len(data) % 4]
+        self.out(f"message {quoted(data)}, and {quoted(left)} behind it", self.header(MESSAGE, len(data), 1) + data + left)
+
     def send_cut(self, text):
         """The first packet of a transfer that is longer than it by this text."""
         data = b"x" * (self.packet_size - 12) + text.encode()

@@ -115,6 +115,12 @@ def set_interface(host):
     host.try_whole_command()
 
 
+def old_bytes(host):
+    scene("A host leaves old bytes behind a command, up to a multiple of four")
+    host.send_over("SETP 19.5\n", "75\n")
+    host.say_answer("SETP?\n")
+
+
 def reading(host):
     """In a process of its own, which is killed."""
     host.send("TEMP?\n")
@@ -190,7 +196,7 @@ def main():
         {"reading": reading, "clearing": clearing, "cutting": cutting}[sys.argv[1]](Host())
         return
     host = Host()
-    for try_it in (status_byte, two_requests_one_look, trigger, clear, abort_read, cut_off, broken_header, halts, set_interface):
+    for try_it in (status_byte, two_requests_one_look, trigger, clear, abort_read, cut_off, broken_header, halts, set_interface, old_bytes):
         try_it(host)
     host.leave()
     killed_in_a_read().leave()
