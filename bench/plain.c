@@ -208,7 +208,7 @@ uint8_t plain_power_on(struct plain_unit *u, size_t packet_size)
 /* Do `length` bytes of a packet, with `left` data bytes to come, fit the transfer? Alignment bytes may be anything. */
 static bool fits(size_t length, size_t left, bool full_packet)
 {
-    size_t due = (left + 3) / 4 * 4;
+    size_t due = (left + 3) & ~(size_t)3;
 
     return length == due || (length < due && full_packet);
 }
@@ -284,7 +284,7 @@ static uint8_t trigger_header(struct plain_unit *u, const uint8_t *p, size_t len
 
 static uint8_t header(struct plain_unit *u, const uint8_t *p, size_t length, uint8_t *tells)
 {
-    if (length % 4 != 0)
+    if ((length & 3) != 0)
         return PLAIN_NOT_IN_FOURS;
     if (length < PLAIN_HEADER)
         return PLAIN_SHORT_HEADER;
@@ -305,7 +305,7 @@ static uint8_t header(struct plain_unit *u, const uint8_t *p, size_t length, uin
 
 static uint8_t continuing(struct plain_unit *u, const uint8_t *p, size_t length)
 {
-    if (length % 4 != 0)
+    if ((length & 3) != 0)
         return PLAIN_NOT_IN_FOURS;
     if (!fits(length, u->out_left, length == u->packet_size))
         return PLAIN_WRONG_LENGTH;

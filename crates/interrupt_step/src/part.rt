@@ -1,4 +1,5 @@
 // A status byte that is set, one that is read, and a packet that is polled.
+use port::types::BIT_6;
 use port::types::InterruptIn;
 use port::types::Notify;
 use port::types::SERVICE_REQUEST;
@@ -15,7 +16,7 @@ ghost use Rattle.port.specs.Interrupt.{withoutBit6, notified, statusHeld, polle
 fn without_bit_6(status: u8) -> u8
     ensures { λ r. ⌜ r ≡ withoutBit6 status ⌝ }
 {
-    status / 128 * 128 + status % 64
+    status & !BIT_6
 }
 
 // With no packet waiting: a service request is queued where bit 6 is on.
@@ -56,7 +57,7 @@ pub fn status_queued(i: InterruptIn, tag: u8) -> InterruptIn
     ensures { λ r. ⌜ r ≡ statusQueued i tag ⌝ }
 {
     let waiting = Notify {
-        notify1: TOP_BIT + tag % TOP_BIT,
+        notify1: TOP_BIT | tag,
         notify2: i.status,
     };
     with_waiting(i, waiting)

@@ -36,7 +36,7 @@ fn aligned(n: usize) -> usize
     requires { ⌜ n < 65536 ⌝ }
     ensures { λ r. ⌜ r ≡ aligned n ⌝ }
 {
-    (n + 3) / 4 * 4
+    ((n + 3) >> 2) << 2
 }
 
 // A packet of n bytes where `due` are to come: it has more, or it is short and has fewer.

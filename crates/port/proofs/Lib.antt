@@ -1,4 +1,5 @@
 -- The laws and the cases, proved of our step.
+pub mod Bits
 pub mod Sizes
 pub mod Soundness
 pub mod Ways

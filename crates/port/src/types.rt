@@ -17,6 +17,9 @@ pub const SERVICE_REQUEST: u8 = 0x81;
 
 pub const TOP_BIT: u8 = 0x80;
 
+// The bit of a status byte that asks for service.
+pub const BIT_6: u8 = 0x40;
+
 // The phases of a Bulk-IN transfer.
 pub const CLOSED: u8 = 0;
 

@@ -1,5 +1,6 @@
 // Whether a unit is sound, part by part.
 use port::types::ASKED;
+use port::types::BIT_6;
 use port::types::BulkIn;
 use port::types::BulkOut;
 use port::types::CLOSED;
@@ -251,7 +252,7 @@ fn in_sound(b: BulkIn) -> bool
 pub fn asks_service(status: u8) -> bool
     ensures { λ r. ⌜ r ≡ asksService status ⌝ }
 {
-    status / 64 % 2 == 1
+    status & BIT_6 != 0
 }
 
 // A packet waits on Interrupt-IN.

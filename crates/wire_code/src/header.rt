@@ -17,8 +17,8 @@ ghost use Rattle.wire.specs.Header.{HEADER, notInFours, readMessage, readReques
 // Bytes of a header.
 pub const HEADER: usize = 12;
 
-// A packet has a multiple of so many bytes.
-const FOUR: usize = 4;
+// The bits of a length that are off in a multiple of four.
+const BELOW_FOUR: usize = 3;
 
 // The kinds of header.
 const DEV_DEP_MSG_OUT: u8 = 1;
@@ -154,7 +154,7 @@ fn read_trigger(s: &[u8]) -> Read
 pub fn not_in_fours(s: &[u8]) -> bool
     ensures { λ r. ⌜ r ≡ notInFours (now (s .entry)) ⌝ }
 {
-    s.len() % FOUR != 0
+    s.len() & BELOW_FOUR != 0
 }
 
 // The header at the start of a packet.

@@ -1,4 +1,4 @@
-// Numbers of two and four bytes, least significant first.
+// Numbers of two and four bytes, least significant first, by shifts and masks: nothing multiplies or divides (02, request 3).
 ghost use mathlib.Core.Path.{_≡_};
 ghost use Prim.Native.Nat.{ℕ, _+_, _/_, _%_, _<_, _≤_, min};
 ghost use lib.ListN.{length};
@@ -34,7 +34,7 @@ pub fn le_u16(s: &[u8], at: usize) -> u32
 {
     let a = wide(s[at]);
     let b = wide(s[at + 1]);
-    a + 256 * b
+    a + (b << 8)
 }
 
 // The number in the four bytes from `at` on.
@@ -44,27 +44,27 @@ pub fn le_u32(s: &[u8], at: usize) -> u32
 {
     let low = le_u16(s, at);
     let high = le_u16(s, at + 2);
-    low + 65536 * high
+    low + (high << 16)
 }
 
 // The low byte of a number, and the one above it.
 pub fn low(n: u32) -> u8
     ensures { λ r. ⌜ r ≡ n % 256 ⌝ }
 {
-    (n % 256) as u8
+    (n & 0xff) as u8
 }
 
 pub fn high(n: u32) -> u8
     ensures { λ r. ⌜ r ≡ n / 256 % 256 ⌝ }
 {
-    (n / 256 % 256) as u8
+    ((n >> 8) & 0xff) as u8
 }
 
 // The four bytes of a number.
 pub fn bytes_of(n: u32) -> [u8; 4]
     ensures { λ r. ⌜ r ≡ bytes4 n ⌝ }
 {
-    let upper = n / 65536;
+    let upper = n >> 16;
     let a = low(n);
     let b = high(n);
     let c = low(upper);
