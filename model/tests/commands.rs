@@ -95,6 +95,8 @@ fn each_fault_is_found() {
         "alignment-refused",
         "alignment-handed-over",
         "tag-kept-over-alignment",
+        "top-byte-lost",
+        "index-high-byte-lost",
     ];
     for fault in faults {
         let output = model(&["compare", "--seconds", "60", "--program", MODEL, "play", "--fault", fault]);

@@ -4,6 +4,7 @@
 //! written down here once more, each rule for itself, so that a slip in one of the two shows.
 
 mod alignment;
+mod bits;
 mod boundaries;
 mod faults;
 mod interrupt_in;
@@ -14,6 +15,7 @@ mod remote;
 mod setup_rows;
 
 pub use alignment::*;
+pub use bits::*;
 pub use boundaries::*;
 pub use faults::*;
 pub use interrupt_in::*;

@@ -202,7 +202,7 @@ mod tests {
     #[test]
     fn a_comparison_stops_where_the_model_is_unsound() {
         // `cat` answers nothing as a unit does, so it has to be a seed whose first block comes to all three.
-        let seed = 2;
+        let seed = 4;
         for (fault, clause) in [
             (Fault::LengthOffByOne, "out-room"),
             (Fault::TagKeptOverClear, "clear-tags"),

@@ -140,6 +140,12 @@ impl Coverage {
         if message_too_long && held == 0 && (1025..=1100).contains(&size) {
             self.too_long[size_column(before)].see(size as usize - 1025);
         }
+        if let (true, Some(bit)) = (message_too_long && held == 0, bit_too_long(packet)) {
+            self.bits_too_long.see(bit);
+        }
+        if accepted && id == 2 && size.is_power_of_two() {
+            self.bits_asked.see(size.trailing_zeros() as usize);
+        }
         if id != 1 || size as usize > STORE {
             return;
         }

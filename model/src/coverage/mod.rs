@@ -51,6 +51,10 @@ pub struct Coverage {
     pub interrupted: Vec<[Sweep; 2]>,
     /// A 1st, 2nd and 3rd alignment byte.
     pub alignment: [Sweep; 3],
+    /// Bits of a TransferSize, and of the numbers of a setup packet.
+    pub bits_too_long: Sweep,
+    pub bits_asked: Sweep,
+    pub bits_of_no_row: Sweep,
     pub tags: Sweep,
     pub ids_refused: Sweep,
     pub status_tags: Sweep,
@@ -145,6 +149,9 @@ impl Coverage {
                 .collect(),
             alignment: ALIGNMENT_PLACES
                 .map(|place| Sweep::new(&format!("values accepted of a {place} alignment byte"), 256)),
+            bits_too_long: Sweep::new("bits of a TransferSize that alone make it 12", 32 - FIRST_TOO_LONG),
+            bits_asked: Sweep::new("bits of a TransferSize that a REQUEST asks for", 32),
+            bits_of_no_row: Sweep::new("bits of wValue, wIndex and wLength that alone are 15", SETUP_BITS),
             tags: Sweep::new("tags accepted", 255),
             ids_refused: Sweep::new("MsgIDs that are 9", 253),
             status_tags: Sweep::new("READ_STATUS_BYTE tags polled on 0x83", 126),

@@ -32,6 +32,9 @@ impl Coverage {
         sweeps.extend(&self.alignment);
         sweeps.extend([
             &self.replies_refused,
+            &self.bits_too_long,
+            &self.bits_asked,
+            &self.bits_of_no_row,
             &self.tags,
             &self.ids_refused,
             &self.status_tags,

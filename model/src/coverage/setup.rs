@@ -61,6 +61,11 @@ impl Coverage {
             return;
         }
         self.observe_interruption(before, kind);
+        if answered.number == Number::NoRow {
+            for bit in bits_of_no_row(packet) {
+                self.bits_of_no_row.see(bit);
+            }
+        }
         let value = u16::from_le_bytes([packet[2], packet[3]]);
         let index = u16::from_le_bytes([packet[4], packet[5]]);
         let no_row_but_for_index = |name: &str| {

@@ -2,6 +2,7 @@
 //! begins.
 
 mod alignment;
+mod bits;
 mod breaks;
 mod headers;
 mod hosts;
@@ -45,7 +46,7 @@ impl Traffic {
         if !self.random.once_in(6) {
             self.tidy();
         }
-        match self.random.below(114) {
+        match self.random.below(117) {
             0..=6 => self.host_scene(),
             7..=14 => self.message_sizes_scene(),
             15..=22 => self.reply_sizes_scene(),
@@ -68,7 +69,8 @@ impl Traffic {
             97..=99 => self.wander_scene(),
             100..=103 => self.interrupt_scene(),
             104..=107 => self.interrupt_events_scene(),
-            _ => self.old_bytes_scene(),
+            108..=113 => self.old_bytes_scene(),
+            _ => self.bits_scene(),
         }
     }
 

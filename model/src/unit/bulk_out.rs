@@ -39,7 +39,7 @@ impl Unit {
 
     /// A packet that begins a transfer, after 6 to 10: 13, 12, 11.
     fn header(&mut self, packet: &[u8]) -> Result<Option<Tells>, Number> {
-        match Header::read(packet)? {
+        match Header::read(&self.as_read(packet, 7, Fault::TopByteLost))? {
             Header::Message { tag, size, end } => {
                 let limit = match self.fault {
                     Some(Fault::LengthOffByOne) => STORE + 1,

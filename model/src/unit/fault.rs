@@ -1,5 +1,7 @@
 //! Deliberate faults, to try whether a comparison finds them.
 
+use super::Unit;
+
 /// A deliberate fault, for trying whether a comparison finds it.
 #[derive(Clone, Copy, Debug, PartialEq, Eq)]
 pub enum Fault {
@@ -19,10 +21,14 @@ pub enum Fault {
     AlignmentHandedOver,
     /// A header with an alignment byte that is not 0 moves neither the tag nor the remote/local state.
     TagKeptOverAlignment,
+    /// The last byte of a TransferSize is not read.
+    TopByteLost,
+    /// The high byte of wIndex is not read.
+    IndexHighByteLost,
 }
 
 impl Fault {
-    pub const ALL: [Fault; 8] = [
+    pub const ALL: [Fault; 10] = [
         Fault::LengthOffByOne,
         Fault::TagKeptOverClear,
         Fault::HalfKeptAfterHalt,
@@ -31,6 +37,8 @@ impl Fault {
         Fault::AlignmentRefused,
         Fault::AlignmentHandedOver,
         Fault::TagKeptOverAlignment,
+        Fault::TopByteLost,
+        Fault::IndexHighByteLost,
     ];
 
     pub fn name(self) -> &'static str {
@@ -43,10 +51,23 @@ impl Fault {
             Fault::AlignmentRefused => "alignment-refused",
             Fault::AlignmentHandedOver => "alignment-handed-over",
             Fault::TagKeptOverAlignment => "tag-kept-over-alignment",
+            Fault::TopByteLost => "top-byte-lost",
+            Fault::IndexHighByteLost => "index-high-byte-lost",
         }
     }
 
     pub fn named(name: &str) -> Option<Fault> {
         Fault::ALL.into_iter().find(|fault| fault.name() == name)
+    }
+}
+
+impl Unit {
+    /// A packet as the unit reads it: with the fault, the byte at `at` is 0 to it.
+    pub(super) fn as_read(&self, packet: &[u8], at: usize, fault: Fault) -> Vec<u8> {
+        let mut read = packet.to_vec();
+        if self.fault == Some(fault) && at < read.len() {
+            read[at] = 0;
+        }
+        read
     }
 }

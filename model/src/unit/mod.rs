@@ -1,4 +1,4 @@
-//! The unit of document 01 and of requests 1 and 2 of document 02: what it holds, power-on, and what several calls lean
+//! The unit of document 01 and of requests 1 to 3 of document 02: what it holds, power-on, and what several calls lean
 //! on. Each kind of call has a file of its own.
 //!
 //! Written from the papers and the readings of them, and from nothing else. Words in quotation marks are the papers'.

@@ -1,7 +1,7 @@
 //! The setup packet call: what each row answers, and the features and capabilities. The splits have their own file.
 
 use super::rows::{Endpoint, Row};
-use super::{Answer, Number, Split, Tells, Unit, CONTROL_BUFFER};
+use super::{Answer, Fault, Number, Split, Tells, Unit, CONTROL_BUFFER};
 
 /// "Statuses: 01 SUCCESS, 02 PENDING, 80 FAILED, .."
 pub(super) const SUCCESS: u8 = 0x01;
@@ -29,7 +29,7 @@ impl Unit {
             return Answer::refused(Number::WrongSize);
         }
         // "Unconfigured, only SET_CONFIGURATION is served."
-        let row = match Row::of(packet) {
+        let row = match Row::of(&self.as_read(packet, 5, Fault::IndexHighByteLost)) {
             Some(row) if self.configured || matches!(row, Row::SetConfiguration(_)) => row,
             _ => return Answer::refused(Number::NoRow),
         };
