@@ -94,15 +94,15 @@ module _ (u : Device) where
   row_kept (SetFeature Interrupt) = (refl, λ _. refl)
   row_kept (GetStatus endpoint) = (refl, λ _. refl)
 
-  abbrev Said_kept : Said → Type 0
-  Said_kept r = Kept (with_state u r.state)
+  abbrev SaidKept : Said → Type 0
+  SaidKept r = Kept (with_state u r.state)
 
   -- a call that brings, takes and breaks no message
   pub quiet_kept : (q : Quiet) → Kept (quietly u q).unit
   unfolding quietly bulk_in poll interrupt_in poll_interrupt offer offer_plan set_status_byte status_set panel returned suspend local_now
-  quiet_kept (in_poll room) = decide_all Said_kept (refuse st) (in_rules st room) _ (refl, (refl, (refl, (refl, tt)))) (λ _. refl)
-  quiet_kept (interrupt_poll room) = decide_all Said_kept (refuse st) (interrupt_rules st room) _ (refl, (refl, (refl, (refl, tt)))) (λ _. refl)
+  quiet_kept (in_poll room) = decide_all SaidKept (refuse st) (in_rules st room) _ (refl, (refl, (refl, (refl, tt)))) (λ _. refl)
+  quiet_kept (interrupt_poll room) = decide_all SaidKept (refuse st) (interrupt_rules st room) _ (refl, (refl, (refl, (refl, tt)))) (λ _. refl)
   quiet_kept (offer_reply bytes) = decide_all (λ (p : Plan). Kept (with_reply u bytes p).unit) (λ n. plain st (only n)) (offer_rules st (length bytes)) _ (refl, (refl, (refl, tt))) (λ _. refl)
-  quiet_kept (set_status status) = decide_all Said_kept (refuse st) (thermostat_rules st) _ (refl, tt) (λ _. refl)
-  quiet_kept front_panel = decide_all Said_kept (refuse st) (thermostat_rules st) _ (refl, tt) (λ _. refl)
+  quiet_kept (set_status status) = decide_all SaidKept (refuse st) (thermostat_rules st) _ (refl, tt) (λ _. refl)
+  quiet_kept front_panel = decide_all SaidKept (refuse st) (thermostat_rules st) _ (refl, tt) (λ _. refl)
   quiet_kept bus_suspend = refl

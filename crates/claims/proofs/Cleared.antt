@@ -118,32 +118,32 @@ module _ (u : Device) (control : ℕ) where
   numbered : (n : ℕ) → (n ≡ DONE → ⊥) → Then (refused u n)
   numbered n k e = absurd (k e.number)
 
-  abbrev Row_then : Reaction → Type 0
-  Row_then r = Then (said u (reacted u.state r))
+  abbrev RowThen : Reaction → Type 0
+  RowThen r = Then (said u (reacted u.state r))
 
-  statused : (status rest : ℕ) → (status ≡ 1 → ⊥) → Row_then (answering (status ∷ rest ∷ []))
+  statused : (status rest : ℕ) → (status ≡ 1 → ⊥) → RowThen (answering (status ∷ rest ∷ []))
   statused status rest k e = absurd (k e.status)
 
-  row_then : CONTROL ≤ control → is_configured u.state ≡ true → Row_then (check_clear (in_of u.state) u.state.split)
+  row_then : CONTROL ≤ control → is_configured u.state ≡ true → RowThen (check_clear (in_of u.state) u.state.split)
   unfolding check_clear effected
   row_then fits c =
-      pick_all Row_then (no (is_clear u.state.split)) _ _ (λ _. statused _ _ (λ e. omega arith))
-      (λ k. pick_all Row_then (is_owed (in_of u.state)) _ _ (λ _. statused _ _ (λ e. omega arith))
+      pick_all RowThen (no (is_clear u.state.split)) _ _ (λ _. statused _ _ (λ e. omega arith))
+      (λ k. pick_all RowThen (is_owed (in_of u.state)) _ _ (λ _. statused _ _ (λ e. omega arith))
       (λ o _. record { fits = fits; unit = refl; configured = c; in_clear = not_no _ k; unowed = o }))
 
-  abbrev Out_then : SetupOutcome → Type 0
-  Out_then x = Then (answered u x)
+  abbrev OutThen : SetupOutcome → Type 0
+  OutThen x = Then (answered u x)
 
-  asked_then : CONTROL ≤ control → Out_then (asked u.state (Asks CheckClearStatus))
+  asked_then : CONTROL ≤ control → OutThen (asked u.state (Asks CheckClearStatus))
   unfolding answered asked answer_row
-  asked_then fits = pick_all Out_then (is_configured u.state) _ _ (row_then fits) (λ _. numbered _ (λ e. omega arith))
+  asked_then fits = pick_all OutThen (is_configured u.state) _ _ (row_then fits) (λ _. numbered _ (λ e. omega arith))
 
   pub cleared : Then (step u (setup_of CHECK_CLEAR_STATUS control))
   unfolding step soundly setup setup_outcome answered
   cleared =
       pick_all Then (is_sound u) _ _
-      (λ _. decide_lines Out_then Denies (setup_rules (length CHECK_CLEAR_STATUS) control) _ (λ _. numbered _ (λ e. omega arith), tt)
-      (λ n. subst (λ (x : Setup). Out_then (asked u.state x)) (sym read_check) (asked_then (ltb-false control CONTROL (none_right (length CHECK_CLEAR_STATUS ≠ᵇ SETUP) _ n.0)))))
+      (λ _. decide_lines OutThen Denies (setup_rules (length CHECK_CLEAR_STATUS) control) _ (λ _. numbered _ (λ e. omega arith), tt)
+      (λ n. subst (λ (x : Setup). OutThen (asked u.state x)) (sym read_check) (asked_then (ltb-false control CONTROL (none_right (length CHECK_CLEAR_STATUS ≠ᵇ SETUP) _ n.0)))))
       (λ _. numbered _ (λ e. omega arith))
 
 -- ** it is the fresh unit in all that counts

@@ -36,11 +36,11 @@ never_none e = let z : ◌≡◌ {A = ℕ} 0 1 = cc in omega arith
 -- the first part of a history, and what is behind it
 front : (w : Watch) (a b : List Event) → Watching w (a ++ b) → Watching w a
 front w [] b h = tt
-front w (e ∷ a) b h = (h.0, front _ a b h.1)
+front w (e ∷ a) b h = (h.0, front (watched w e.call e.answer) a b h.1)
 
 rest : (w : Watch) (a b : List Event) → Watching w (a ++ b) → Watching (watch w a) b
 rest w [] b h = h
-rest w (e ∷ a) b h = rest _ a b h.1
+rest w (e ∷ a) b h = rest (watched w e.call e.answer) a b h.1
 
 -- bit 6 goes off
 off : (status : ℕ) → bit6 status ≡ true → bit6 (status - 64) ≡ true → ⊥
@@ -100,7 +100,7 @@ undisturbed : (w : Watch) (es : List Event) → none w.next ≡ false → Watchi
 undisturbed w [] waits h u = refl
 undisturbed w (e ∷ es) waits h u =
     let k = one w waits e h.0 u.0 in
-    ap (λ (x : Watch). watch x es) k ∙ undisturbed _ es waits (subst (λ (x : Watch). Watching x es) k h.1) u.1
+    ap (λ (x : Watch). watch x es) k ∙ undisturbed (record { held = pick (e.answer.verdict.number =ᵇ 0) (set_by w.held e.call) w.held; next = w.next }) es waits (subst (λ (x : Watch). Watching x es) k h.1) u.1
 
 -- a poll, where a packet waits behind a stretch that does not disturb it
 brings : (w : Watch) (packet : List ℕ) (between later : List Event) (room : ℕ) (b : Answer) → w.next ≡ packet → Not (packet ≡ [])
@@ -163,7 +163,7 @@ looked requests status k = by (bit6 status) refl
     by true e = let m = k e in due_to (behind_on status e) refl (waits refl m.0 m.1 m.2 (λ f. absurd (off status e f)))
     by false e = due_to (behind_off status e) refl (rests refl e)
 
-record Goes_on (w : Watch) (requests : List (List ℕ)) (e : Event) : Type 0 where
+record GoesOn (w : Watch) (requests : List (List ℕ)) (e : Event) : Type 0 where
   newer : List (List ℕ)
   uses : UsesUp (brought e.call e.answer) requests newer
   due : Due (watched w e.call e.answer) (requests_after w newer e)
@@ -217,7 +217,7 @@ module _ (w : Watch) (requests : List (List ℕ)) (d : Due w requests) where
 
   -- ** any event
 
-  quietly_on : (e : Event) → brought e.call e.answer ≡ [] → (e.answer.verdict.number ≡ 0 → After e.call e.answer requests) → Goes_on w requests e
+  quietly_on : (e : Event) → brought e.call e.answer ≡ [] → (e.answer.verdict.number ≡ 0 → After e.call e.answer requests) → GoesOn w requests e
   unfolding watched requests_after pick
   quietly_on e n k = record { newer = requests; uses = subst (λ (l : List (List ℕ)). UsesUp l requests requests) (sym n) refl; due = by (e.answer.verdict.number =ᵇ 0) refl }
     where
@@ -226,11 +226,11 @@ module _ (w : Watch) (requests : List (List ℕ)) (d : Due w requests) where
       by true z = k (eqb-true _ _ z)
       by false z = d
 
-  poll_on : (room : ℕ) (a : Answer) → Tells w (quiet (interrupt_poll room)) a → Goes_on w requests (polls room a)
+  poll_on : (room : ℕ) (a : Answer) → Tells w (quiet (interrupt_poll room)) a → GoesOn w requests (polls room a)
   unfolding watched requests_after pick
   poll_on room a t = by (a.verdict.number =ᵇ 0) refl d
     where
-      by : (b : Bool) → (a.verdict.number =ᵇ 0) ≡ b → Due w requests → Goes_on w requests (polls room a)
+      by : (b : Bool) → (a.verdict.number =ᵇ 0) ≡ b → Due w requests → GoesOn w requests (polls room a)
       by true z (rests n o) = absurd ((t.0 (eqb-true _ _ z)).0 n)
       by true z (waits n older newer f k) = record {
         newer = newer;
@@ -243,7 +243,7 @@ module _ (w : Watch) (requests : List (List ℕ)) (d : Due w requests) where
         due = subst (λ (b : Bool). Due (pick b (behind w.held) w) (pick b (requests ++ []) requests)) (sym z) k;
       }
 
-  goes_on : (c : Call) (a : Answer) → Tells w c a → Goes_on w requests (record { call = c; answer = a })
+  goes_on : (c : Call) (a : Answer) → Tells w c a → GoesOn w requests (record { call = c; answer = a })
   goes_on (setup_packet p) a t = quietly_on _ refl (setup_made p a t)
   goes_on (out_packet s) a t = quietly_on _ refl (λ _. nothing_made)
   goes_on (take_into room) a t = quietly_on _ refl (λ _. nothing_made)
@@ -257,7 +257,7 @@ module _ (w : Watch) (requests : List (List ℕ)) (d : Due w requests) where
 
 none_from : (w : Watch) (requests : List (List ℕ)) (es : List Event) → Due w requests → Watching w es → NoneMadeUpFrom w requests es
 none_from w requests [] d h = tt
-none_from w requests (e ∷ es) d h = let k = goes_on w requests d e.call e.answer h.0 in (k.newer, k.uses, none_from _ _ es k.due h.1)
+none_from w requests (e ∷ es) d h = let k = goes_on w requests d e.call e.answer h.0 in (k.newer, k.uses, none_from (watched w e.call e.answer) (requests_after w k.newer e) es k.due h.1)
 
 pub none_made_up : NoneMadeUp step
 none_made_up setting calls = none_from unwatched [] (trace step (power_on setting).unit calls) (rests refl refl) (status_told_ever setting calls)

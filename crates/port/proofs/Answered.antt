@@ -163,6 +163,7 @@ reachable (on_behind before c) = inr (record { setting = record { packet = 64 };
 reachable (on_unsound c) = inl (ap (λ (r : Result). r.answer.verdict.number) (unsound_refused (made (record { packet = 7 }) OFF) c not_seven))
 
 found : (k : Kind) (n : ℕ) (ws : List Witness) → Fitting k ws → OneOf n (numbers ws) → Answered step k n
+found k n [] a x = elim x [ ]
 found k n (w ∷ ws) a (inl e) = record { unit = unit_of w; call = call_of w; kind = a.0; gives = sym e; reached = ⊎_elim (λ z. inl (e ∙ z)) inr (reachable w) }
 found k n (w ∷ ws) a (inr o) = found k n ws a.1 o
 

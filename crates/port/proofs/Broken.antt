@@ -8,7 +8,7 @@ use native.Mathlib.Omega.{arith}
 use borrow.Author.Tests.{eqb-true, ne_eqb}
 use lib.ListN.{length}
 use Rattle.rules.specs.Choice.{◌=ᵇ◌, ◌and◌}
-use Rattle.rules.specs.Answers.{DONE, UNSOUND, WRONG_SIZE, NO_ROW, SUCCESS, Leaves, as_ruled, unchanged, out_halted, leaves}
+use Rattle.rules.specs.Answers.{DONE, UNSOUND, WRONG_SIZE, NO_ROW, SUCCESS, SPLIT_IN_PROGRESS, Leaves, as_ruled, unchanged, out_halted, leaves}
 use Rattle.rules.proofs.Choice.{pick_all, decide_all, eq_neb, and_left, and_right, both_right}
 use Rattle.wire.specs.Bytes.{byte}
 use Rattle.rules.specs.Flags.{OFF, ON}
@@ -30,7 +30,7 @@ use Rattle.port.specs.Breaks.{halting, breaks_row, breaks_setup, is_break}
 use Rattle.port.specs.Laws.{LeftAs, BreakDrops}
 use Rattle.port.specs.declared.types.OutMessage.{OutMessage}
 use Rattle.port.specs.declared.types.BulkOut.{BulkOut}
-use Rattle.port.specs.declared.types.Effect.TheVariants.{AbortsOut}
+use Rattle.port.specs.declared.types.Effect.TheVariants.{AbortsOut, Clears}
 use Rattle.port.specs.declared.types.SetupOutcome.{SetupOutcome}
 use Rattle.port.specs.declared.types.SetupOutcome.TheVariants.{Denies}
 use Rattle.port.specs.declared.types.State.{State}
@@ -69,7 +69,7 @@ row_drops st (InitiateAbortBulkOut tag) =
 row_drops st CheckAbortBulkOutStatus = λ e. absurd (false≢true e)
 row_drops st (InitiateAbortBulkIn tag) = λ e. absurd (false≢true e)
 row_drops st CheckAbortBulkInStatus = λ e. absurd (false≢true e)
-row_drops st InitiateClear = pick_all (Drops st succeeded) (is_clear st.split) _ _ (λ _ e. absurd (false≢true e)) (λ _ _. empty_dropped ON 0)
+row_drops st InitiateClear = pick_all (Drops st succeeded) (is_clear st.split) (answering (SPLIT_IN_PROGRESS ∷ [])) (reacts Clears (SUCCESS ∷ [])) (λ _ e. absurd (false≢true e)) (λ _ _. empty_dropped ON 0)
 row_drops st CheckClearStatus = λ e. absurd (false≢true e)
 row_drops st GetCapabilities = λ e. absurd (false≢true e)
 row_drops st IndicatorPulse = λ e. absurd (false≢true e)

@@ -52,7 +52,7 @@ use Rattle.port.specs.declared.types.Plan.{Plan}
 use Rattle.port.specs.declared.types.Outcome.{Outcome}
 use Rattle.port.specs.declared.types.Outcome.TheVariants.{Keep, Halt, Data, Accept}
 use Rattle.port.specs.declared.types.SetupOutcome.{SetupOutcome}
-use Rattle.port.specs.declared.types.SetupOutcome.TheVariants.{Denies}
+use Rattle.port.specs.declared.types.SetupOutcome.TheVariants.{Denies, Answers}
 use Rattle.port.proofs.Calls.{step_sound, keeps_sound, power_on_sound, row_done}
 use Rattle.port.proofs.Readers.{Found, find, ◌▹◌}
 
@@ -138,14 +138,14 @@ module _ (w : Watch) (bytes : List ℕ) where
       w
 
   -- so it is with a row, whose wValue is v and the low byte of it b
-  abbrev Goes_by : Column × (ℕ → Setup) → Type 0
-  Goes_by c = (v b : ℕ) → v ≤ c.0.high → (v ≤ 255 → b ≡ v) → by_bytes c.0.type c.0.request b ≡ by_setup (c.1 v)
+  abbrev GoesBy : Column × (ℕ → Setup) → Type 0
+  GoesBy c = (v b : ℕ) → v ≤ c.0.high → (v ≤ 255 → b ≡ v) → by_bytes c.0.type c.0.request b ≡ by_setup (c.1 v)
 
-  abbrev Reads_by : Column × (ℕ → Setup) → Type 0
-  Reads_by c = (c.0.type =ᵇ 0xA1 and c.0.request =ᵇ 128) ≡ true → (v b : ℕ) → v ≤ c.0.high → (v ≤ 255 → b ≡ v) → Reads b (c.1 v)
+  abbrev ReadsBy : Column × (ℕ → Setup) → Type 0
+  ReadsBy c = (c.0.type =ᵇ 0xA1 and c.0.request =ᵇ 128) ≡ true → (v b : ℕ) → v ≤ c.0.high → (v ≤ 255 → b ≡ v) → Reads b (c.1 v)
 
   abbrev Told : Column × (ℕ → Setup) → Type 0
-  Told c = Goes_by c × Reads_by c
+  Told c = GoesBy c × ReadsBy c
 
   all_told : Each Told rows
   unfolding pick ◌and◌
@@ -269,16 +269,22 @@ module _ (u : Device) where
     denied : (n : ℕ) → Not (n ≡ 0) → Goes c (refused u n)
     denied n z = refuses c n z (λ e. absurd (z e))
 
+    row_goes : (row : Row) → Matches p.packet rows (Asks row) → InRange (Asks row) → Goes c (answered u (Answers row))
+    unfolding answered
+    row_goes row m k =
+        let a = (answer_row st row).answer in
+        let f = matched w a.bytes p.packet (Asks row) m in
+        goes_to c (with_state u (effected st (answer_row st row).effect)) a (row_done st row)
+        (λ _ e. row_answers p.packet row (f.1 e)) (row_moves row (λ tag e. (subst Tagged e k).1) ∙ sym f.0)
+
     served : (x : Setup) → Matches p.packet rows x → InRange x → Goes c (answered u (asked st x))
     unfolding asked answered made fresh no ◌≠ᵇ◌ pick
     served (Configure value) m k =
         let f = matched w [] p.packet (Configure value) m in
         goes_to c _ (numbered DONE) refl (λ _ e. absurd (f.1 e)) (sym f.0)
     served (Asks row) m k =
-        let a = (answer_row st row).answer in
-        let f = matched w a.bytes p.packet (Asks row) m in
-        pick_all (λ (x : SetupOutcome). Goes c (answered u x)) (is_configured st) _ _
-        (λ _. goes_to c _ a (row_done st row) (λ _ e. row_answers p.packet row (f.1 e)) (row_moves row (λ tag e. (subst Tagged e k).1) ∙ sym f.0))
+        pick_all (λ (x : SetupOutcome). Goes c (answered u x)) (is_configured st) (Answers row) (Denies NO_ROW)
+        (λ _. row_goes row m k)
         (λ _. denied NO_ROW (λ e. omega arith))
     served NoRow m k = denied NO_ROW (λ e. omega arith)
 

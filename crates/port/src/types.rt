@@ -29,13 +29,13 @@ pub const OWED: u8 = 3;
 
 // What power-on is given.
 #[repr(C)]
-#[derive(Drop)]
+#[derive(Clone, Copy)]
 pub struct Setting {
     pub packet: u16,
 }
 
 #[repr(C)]
-#[derive(Drop)]
+#[derive(Clone, Copy)]
 pub struct Port {
     pub setting: Setting,
     pub configured: u8,
@@ -44,7 +44,7 @@ pub struct Port {
 
 // The message that comes in: `held` data bytes of it are in the store, and it is `ready` once it is whole.
 #[repr(C)]
-#[derive(Drop)]
+#[derive(Clone, Copy)]
 pub struct OutMessage {
     pub held: u16,
     pub ready: u8,
@@ -52,7 +52,7 @@ pub struct OutMessage {
 
 // A Bulk-OUT transfer is open while `left` data bytes of it are to come; `got` have come, and `end` is its EOM.
 #[repr(C)]
-#[derive(Drop)]
+#[derive(Clone, Copy)]
 pub struct OutTransfer {
     pub left: u16,
     pub got: u16,
@@ -61,7 +61,7 @@ pub struct OutTransfer {
 
 // Bulk-OUT. `recent` is the most recent tag, which is the open transfer's own.
 #[repr(C)]
-#[derive(Drop)]
+#[derive(Clone, Copy)]
 pub struct BulkOut {
     pub message: OutMessage,
     pub transfer: OutTransfer,
@@ -71,7 +71,7 @@ pub struct BulkOut {
 
 // The reply that goes out: its `unsent` bytes stand in the store from `at` on.
 #[repr(C)]
-#[derive(Drop)]
+#[derive(Clone, Copy)]
 pub struct InReply {
     pub at: u16,
     pub unsent: u16,
@@ -80,7 +80,7 @@ pub struct InReply {
 // A Bulk-IN transfer. `phase` says how far that of `tag` is: closed, asked (for `asked` bytes, up to `term` where `enabled`), sending
 // (`sent` data bytes have gone, `left` are to go) or owed, where only the empty packet is to go.
 #[repr(C)]
-#[derive(Drop)]
+#[derive(Clone, Copy)]
 pub struct InTransfer {
     pub phase: u8,
     pub tag: u8,
@@ -93,7 +93,7 @@ pub struct InTransfer {
 
 // Bulk-IN. `recent` is the most recent tag.
 #[repr(C)]
-#[derive(Drop)]
+#[derive(Clone, Copy)]
 pub struct BulkIn {
     pub reply: InReply,
     pub transfer: InTransfer,
@@ -103,7 +103,7 @@ pub struct BulkIn {
 
 // A packet of Interrupt-IN, by USB488's names for its two bytes. There is none where the first is 0.
 #[repr(C)]
-#[derive(Drop)]
+#[derive(Clone, Copy)]
 pub struct Notify {
     pub notify1: u8,
     pub notify2: u8,
@@ -111,7 +111,7 @@ pub struct Notify {
 
 // Interrupt-IN, with the status byte that its packets tell of. A service request is kept while bit 6 of `status` is on.
 #[repr(C)]
-#[derive(Drop)]
+#[derive(Clone, Copy)]
 pub struct InterruptIn {
     pub status: u8,
     pub waiting: Notify,
@@ -119,7 +119,7 @@ pub struct InterruptIn {
 }
 
 #[repr(C)]
-#[derive(Drop)]
+#[derive(Clone, Copy)]
 pub struct Small {
     pub port: Port,
     pub bulkout: BulkOut,
@@ -128,7 +128,7 @@ pub struct Small {
 }
 
 // The split in progress, with the count of an abort.
-#[derive(Drop)]
+#[derive(Clone, Copy)]
 pub enum Split {
     None,
     AbortOut { count: u16 },
@@ -137,7 +137,7 @@ pub enum Split {
 }
 
 // The remote/local state.
-#[derive(Drop)]
+#[derive(Clone, Copy)]
 pub enum Remote {
     Locs,
     Rems,
@@ -146,7 +146,7 @@ pub enum Remote {
 }
 
 // What a call is decided by.
-#[derive(Drop)]
+#[derive(Clone, Copy)]
 pub struct State {
     pub small: Small,
     pub split: Split,
@@ -155,7 +155,7 @@ pub struct State {
 
 // What a Bulk-OUT packet comes to: a number with nothing changed, a number with Bulk-OUT halted, data bytes of the open transfer, or a
 // header with its first data bytes.
-#[derive(Drop)]
+#[derive(Clone, Copy)]
 pub enum Outcome {
     Keep { number: u8 },
     Halt { number: u8 },
@@ -164,7 +164,7 @@ pub enum Outcome {
 }
 
 // What a call leaves that stores bytes: the state after it, the verdict, and its data: `count` bytes from `from` on.
-#[derive(Drop)]
+#[derive(Clone, Copy)]
 pub struct Plan {
     pub state: State,
     pub verdict: Verdict,
@@ -173,7 +173,7 @@ pub struct Plan {
 }
 
 // What a call leaves whose bytes go into a lent buffer: the state after it, the verdict, and how many bytes it wrote.
-#[derive(Drop)]
+#[derive(Clone, Copy)]
 pub struct Given {
     pub state: State,
     pub verdict: Verdict,
@@ -181,7 +181,7 @@ pub struct Given {
 }
 
 // What a setup packet comes to: a number with nothing changed, SET_CONFIGURATION, or a row that is answered.
-#[derive(Drop)]
+#[derive(Clone, Copy)]
 pub enum SetupOutcome {
     Denies { number: u8 },
     Renews { value: u8 },
@@ -189,7 +189,7 @@ pub enum SetupOutcome {
 }
 
 // What an answered row does to the state.
-#[derive(Drop)]
+#[derive(Clone, Copy)]
 pub enum Effect {
     Stays,
     AbortsOut,

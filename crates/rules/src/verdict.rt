@@ -6,7 +6,7 @@ use crate::TELLS_NOTHING;
 
 // The number of an answer, and what it tells.
 #[repr(C)]
-#[derive(Drop)]
+#[derive(Clone, Copy)]
 pub struct Verdict {
     pub number: u8,
     pub tells: u8,

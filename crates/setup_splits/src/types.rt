@@ -3,7 +3,7 @@ use port::types::Effect;
 use rules::verdict::Verdict;
 
 // What the row does to the state, the verdict, and `len` bytes.
-#[derive(Drop)]
+#[derive(Clone, Copy)]
 pub struct Control {
     pub effect: Effect,
     pub verdict: Verdict,

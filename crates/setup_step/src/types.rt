@@ -2,7 +2,7 @@
 use port::types::Effect;
 use rules::verdict::Verdict;
 
-#[derive(Drop)]
+#[derive(Clone, Copy)]
 pub struct Replied {
     pub effect: Effect,
     pub verdict: Verdict,

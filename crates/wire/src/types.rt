@@ -13,7 +13,7 @@ pub const SETUP: usize = 8;
 pub const CONTROL: usize = 24;
 
 // A header that has no fault of its own. `end` is 1 with EOM, `enabled` is 1 with TermCharEnabled, else each is 0; without it `term` is 0.
-#[derive(Drop)]
+#[derive(Clone, Copy)]
 pub enum Header {
     Message {
         tag: u8,
@@ -32,14 +32,14 @@ pub enum Header {
 }
 
 // A header, or the number of its first fault.
-#[derive(Drop)]
+#[derive(Clone, Copy)]
 pub enum Read {
     Good { header: Header },
     Fault { number: u8 },
 }
 
 // The endpoints that feature and status rows name.
-#[derive(Drop)]
+#[derive(Clone, Copy)]
 pub enum Endpoint {
     Out,
     In,
@@ -47,7 +47,7 @@ pub enum Endpoint {
 }
 
 // The rows of document 01's table of setup packets that a configured unit serves.
-#[derive(Drop)]
+#[derive(Clone, Copy)]
 pub enum Row {
     InitiateAbortBulkOut { tag: u8 },
     CheckAbortBulkOutStatus,
@@ -67,7 +67,7 @@ pub enum Row {
 }
 
 // What a setup packet asks: SET_CONFIGURATION, which every unit serves, another row, or none.
-#[derive(Drop)]
+#[derive(Clone, Copy)]
 pub enum Setup {
     Configure { value: u8 },
     Asks { row: Row },
