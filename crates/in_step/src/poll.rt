@@ -17,7 +17,7 @@ use port::types::{ASKED, BulkIn, CLOSED, Given, InReply, OWED, SENDING, State};
 use rules::verdict::only;
 use rules::{DONE, HALTED, UNCONFIGURED, UNSOUND, WAIT, WRONG_SIZE};
 use state_parts::given::given;
-use state_parts::parts::{carrying, sending_in, shut, with_in_lem};
+use state_parts::parts::{carrying, sending_in, shut, with_in};
 use state_sound::sound::sound;
 use wire_code::copies::copy_in;
 use wire_code::header::{D0, D1, HEADER, write_header};
@@ -215,7 +215,7 @@ fn poll_from(reply: &[u8], st: State, b: &mut [u8]) -> Given
     let packet = next_packet(reply, widened(st.small.port.setting.packet), side, b);
     let after = packet.side;
     Given {
-        state: with_in_lem(st, after),
+        state: with_in(st, after),
         verdict: only(DONE),
         len: packet.len,
     }

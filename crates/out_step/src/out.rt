@@ -6,7 +6,7 @@ use crate::sides::{absorbed, opened, requested, tagged};
 use port::types::{Outcome, Plan, State};
 use rules::verdict::{Verdict, only};
 use rules::{DONE, TELLS_TRIGGER};
-use state_parts::parts::{broken, with_in_lem, with_out, with_remote};
+use state_parts::parts::{broken, with_in, with_out, with_remote};
 use state_remote::remote::headed;
 use wire::types::Header;
 use wire_code::header::HEADER;
@@ -47,7 +47,7 @@ fn request_accepted(st: State, tag: u8, size: u32, enabled: u8, term: u8, count:
     let b = st.small.bulkin;
     let out = with_out(st, tagged(o, tag));
     plain(
-        with_in_lem(out, requested(b, tag, size, enabled, term)),
+        with_in(out, requested(b, tag, size, enabled, term)),
         only(DONE),
     )
 }

@@ -5,7 +5,7 @@ ghost use Rattle.port.specs.Rows.{owing, cleared_in, clear_feature_out, clear_fe
 use interrupt_step::part::status_queued;
 use port::types::{BulkIn, BulkOut, CLOSED, Effect, OWED, Split, State};
 use state_parts::parts::{
-    broken, closed_in, empty_in, empty_out, keeps_halt, owed_in, shut, with_in_lem, with_in_halted,
+    broken, closed_in, empty_in, empty_out, keeps_halt, owed_in, shut, with_in, with_in_halted,
     with_interrupt, with_interrupt_halted, with_out, with_port, with_remote, with_ren, with_split,
 };
 use state_remote::remote::{local_now, locked_out, to_local};
@@ -63,14 +63,14 @@ fn aborted_in(st: State) -> State
 {
     let b = st.small.bulkin;
     let count = b.transfer.sent;
-    with_split(with_in_lem(st, owing(b, b.recent)), Split::AbortIn { count })
+    with_split(with_in(st, owing(b, b.recent)), Split::AbortIn { count })
 }
 
 fn clearing(st: State) -> State
     ensures { result ≡ clearing st }
 {
     let b = st.small.bulkin;
-    let dropped = with_in_lem(with_out(st, empty_out(1, 0)), cleared_in(b));
+    let dropped = with_in(with_out(st, empty_out(1, 0)), cleared_in(b));
     with_split(dropped, Split::Clear)
 }
 
@@ -95,7 +95,7 @@ fn clears_halt(st: State, endpoint: Endpoint) -> State
         }
         Endpoint::In => {
             let b = st.small.bulkin;
-            with_in_lem(st, clear_feature_in(b))
+            with_in(st, clear_feature_in(b))
         }
         Endpoint::Interrupt => {
             let i = st.small.interrupt;
@@ -114,7 +114,7 @@ fn sets_halt(st: State, endpoint: Endpoint) -> State
         }
         Endpoint::In => {
             let b = st.small.bulkin;
-            with_in_lem(st, with_in_halted(b, 1))
+            with_in(st, with_in_halted(b, 1))
         }
         Endpoint::Interrupt => {
             let i = st.small.interrupt;

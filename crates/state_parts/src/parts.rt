@@ -39,7 +39,7 @@ pub fn with_out(st: State, bulkout: BulkOut) -> State
     with_small(st, small)
 }
 
-pub fn with_in_lem(st: State, bulkin: BulkIn) -> State
+pub fn with_in(st: State, bulkin: BulkIn) -> State
     ensures { result ≡ with_in st bulkin }
 {
     let mut small = st.small;

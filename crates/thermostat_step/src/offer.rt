@@ -11,7 +11,7 @@ ghost use Rattle.port.specs.Calls.{offer_rules, offered, offer_plan};
 use port::types::{BulkIn, InReply, Plan, SENDING, STORE, State};
 use rules::verdict::only;
 use rules::{DONE, NOT_NOW, UNCONFIGURED, UNSOUND, WRONG_SIZE};
-use state_parts::parts::{carrying, is_clear, with_in_lem};
+use state_parts::parts::{carrying, is_clear, with_in};
 use state_sound::sound::sound;
 use wire_code::copies::copy_in;
 
@@ -97,7 +97,7 @@ fn offer_plan(st: State, n: usize) -> Plan
     }
     let b = st.small.bulkin;
     Plan {
-        state: with_in_lem(st, offered(b, n as u16)),
+        state: with_in(st, offered(b, n as u16)),
         verdict: only(DONE),
         from: 0,
         count: n,

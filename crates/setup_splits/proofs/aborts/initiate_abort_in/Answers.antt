@@ -1,0 +1,16 @@
+use Rattle.setup_splits.proofs.SplitLaws.{abort_in_refused, abort_in_done}
+use Rattle.setup_splits.specs.Control.{control_of}
+use mathlib.Core.Path.{ap, ◌∙◌}
+use Rattle.setup_splits.proofs.aborts.initiate_abort_in.Goals as goal
+
+pub returns-then-status-ne0 : goal.returns-then-status-ne0
+returns-then-status-ne0 c =
+    c.reacts_2.ensures ∙ rw c.in_tag-own.ensures
+    (ap control_of (abort_in_refused _ _ _ (rw (c.is_open_in.ensures, c.in_tag-own.ensures)
+    at c.abort_gate-status.ensures) c.if-status-ne0.true))
+
+pub returns : goal.returns
+returns c =
+    c.reacts_2-2.ensures ∙ rw c.in_tag-own.ensures
+    (ap control_of (abort_in_done _ _ _ (rw (c.is_open_in.ensures, c.in_tag-own.ensures)
+    at c.abort_gate-status.ensures) c.if-status-ne0.false))

@@ -1,7 +1,0 @@
-use mathlib.Core.Path.{sym}
-use Rattle.rules.proofs.Choice.{eq_neb, ne_neb}
-use Rattle.state_sound.proofs.sound.is_waiting.Statement.{statement}
-use Rattle.state_sound.proofs.sound.is_waiting.Tie as tie
-
-pub is_waiting_spec : {M : Type 1} → statement M
-is_waiting_spec = tie.close (tie.spec (λ c. sym (eq_neb _ _ c.if1.true)) (λ c. sym (ne_neb _ _ c.if1.false)))

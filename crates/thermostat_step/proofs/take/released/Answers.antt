@@ -1,0 +1,6 @@
+use Rattle.port.specs.Calls.{released}
+use Rattle.thermostat_step.proofs.take.released.Goals as goal
+
+pub returns : goal.returns
+unfolding released
+returns c = rw (c.holding.ensures, c.no_message.ensures)
