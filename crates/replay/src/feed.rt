@@ -14,7 +14,7 @@ use unit::types::Unit;
 
 // The unit; how far the output is filled with answers, how far the lines in the input are played, and how many bytes of a line wait there
 // for its end. `skipping` says that the start of that line was too long to keep, `going` that there is more to read and write.
-#[derive(Drop)]
+#[derive(Clone, Copy)]
 pub struct Feed {
     pub unit: Unit,
     pub filled: usize,

@@ -6,7 +6,7 @@ use text_answers::answer::{put_done, put_told};
 use unit::types::{Done, Told, Unit};
 
 // The unit after the line, and the place behind its answer.
-#[derive(Drop)]
+#[derive(Clone, Copy)]
 pub struct Played {
     pub unit: Unit,
     pub at: usize,

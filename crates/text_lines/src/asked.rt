@@ -9,7 +9,7 @@ use text_words::words::{Word, is_empty, nth_word, part, said};
 pub const LONGEST: usize = 4096;
 
 // A call, and where the first two words behind its name stand.
-#[derive(Drop)]
+#[derive(Clone, Copy)]
 pub struct Call {
     pub name: Name,
     pub first: Word,
@@ -18,7 +18,7 @@ pub struct Call {
 
 // A call; or nothing; or what is wrong: too long a line, or a word that is no call's name, or is a name that needs a word behind it, or is one
 // too many. The words' places are those of the line.
-#[derive(Drop)]
+#[derive(Clone, Copy)]
 pub enum Asked {
     For(Call),
     Nothing,

@@ -12,7 +12,7 @@ const LARGEST_BUFFER: u16 = 2048;
 
 // Why a word cannot be read: it is no decimal number, or one above the largest; a byte of it is no hex digit, or their number is odd; it is
 // no single byte.
-#[derive(Drop)]
+#[derive(Clone, Copy)]
 pub enum Unread {
     NoDecimal,
     Above(u16),
@@ -21,7 +21,7 @@ pub enum Unread {
     NoStatus,
 }
 
-#[derive(Drop)]
+#[derive(Clone, Copy)]
 pub enum Size {
     Packet(u16),
     NoSize(Unread),
@@ -39,7 +39,7 @@ pub fn given_size(word: &[u8]) -> Size
     }
 }
 
-#[derive(Drop)]
+#[derive(Clone, Copy)]
 pub enum Length {
     Buffer(u16),
     OfTheCall,
@@ -62,7 +62,7 @@ pub fn given_length(word: &[u8]) -> Length
 }
 
 // How many bytes.
-#[derive(Drop)]
+#[derive(Clone, Copy)]
 pub enum Given {
     Bytes(usize),
     NoBytes(Unread),
@@ -81,7 +81,7 @@ pub fn given_bytes(word: &[u8], bytes: &mut [u8; BYTES]) -> Given
     }
 }
 
-#[derive(Drop)]
+#[derive(Clone, Copy)]
 pub enum Status {
     Byte(u8),
     NoByte(Unread),

@@ -6,7 +6,7 @@ ghost use Rattle.text_lines.specs.Lines.{row, name_of};
 
 use text_words::words::same;
 
-#[derive(Drop)]
+#[derive(Clone, Copy)]
 pub enum Name {
     Power,
     Setup,
@@ -24,7 +24,7 @@ pub enum Name {
 }
 
 // The call that a word names, if it names one.
-#[derive(Drop)]
+#[derive(Clone, Copy)]
 pub enum Named {
     Known(Name),
     Unknown,

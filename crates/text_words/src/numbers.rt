@@ -1,7 +1,7 @@
 // Numbers and bytes in words.
 ghost use Rattle.std.specs.Prelude.{◌≡◌, ◌+◌, ◌-◌, ◌*◌, ◌<◌, ◌≤◌, min, length, take};
 ghost use Rattle.text_words.specs.Numbers.{at_most, read_decimal, read_hex, pairs, hex_bytes, over};
-ghost use Rattle.text_words.specs.Numbers.{number as Numbers·number, nibble as Numbers·nibble};
+ghost use Rattle.text_words.specs.Numbers as Numbers;
 
 use crate::seek::{Sought, seek};
 use crate::words::{first_part, same};
@@ -10,7 +10,7 @@ use crate::words::{first_part, same};
 pub const BYTES: usize = 2048;
 
 // A decimal number.
-#[derive(Drop)]
+#[derive(Clone, Copy)]
 pub enum ReadDecimal {
     Value(u16),
     NotDecimal,
@@ -35,7 +35,7 @@ fn digit_of(byte: u8) -> u32
 
 // The number of a word's digits, of which it reads no more than it takes to see that the number is too large.
 fn number(word: &[u8], most: u16) -> ReadDecimal
-    ensures { result ≡ at_most most (Numbers·number word.now) }
+    ensures { result ≡ at_most most (Numbers.number word.now) }
 {
     let limit = most as u32;
     let mut n: u32 = 0;
@@ -61,7 +61,7 @@ pub fn decimal(word: &[u8], most: u16) -> ReadDecimal
 }
 
 // Bytes written in hex: how many, or what is wrong with them.
-#[derive(Drop)]
+#[derive(Clone, Copy)]
 pub enum ReadHex {
     Count(usize),
     NotHex(u8),
@@ -70,7 +70,7 @@ pub enum ReadHex {
 
 // The number of a hex digit; 0 where it is none.
 fn nibble(byte: u8) -> u8
-    ensures { (result ≡ Numbers·nibble byte) × (result < 16) }
+    ensures { (result ≡ Numbers.nibble byte) × (result < 16) }
 {
     match byte {
         b'0'..=b'9' => byte - b'0',
@@ -81,7 +81,7 @@ fn nibble(byte: u8) -> u8
 }
 
 fn joined(high: u8, low: u8) -> u8
-    ensures { result ≡ Numbers·nibble high * 16 + Numbers·nibble low }
+    ensures { result ≡ Numbers.nibble high * 16 + Numbers.nibble low }
 {
     nibble(high) * 16 + nibble(low)
 }

@@ -2,10 +2,10 @@
 ghost use Rattle.std.specs.Prelude.{◌≡◌, ◌≤◌, max, length};
 ghost use Rattle.rules.specs.Choice.{no};
 ghost use Rattle.text_words.specs.Text.{is_blank, is_digit, is_hex_digit, is_sought};
-ghost use Rattle.text_words.specs.Text.{seek as Text·seek};
+ghost use Rattle.text_words.specs.Text as Text;
 
 // What is looked for: a byte, a blank, or what is no blank, no digit or no hex digit.
-#[derive(Drop)]
+#[derive(Clone, Copy)]
 pub enum Sought {
     Byte(u8),
     Blank,
@@ -67,8 +67,8 @@ fn is_sought(sought: Sought, byte: u8) -> bool
 
 // The place of the first such byte from `from` on, or the end.
 pub fn seek(text: &[u8], from: usize, sought: Sought) -> usize
-    ensures value { result ≡ Text·seek (is_sought sought) text.now from }
-    ensures lower_bound { (from ≤ result) × (result ≤ max from (length text.now)) }
+    ensures value { result ≡ Text.seek (is_sought sought) text.now from }
+    ensures within { (from ≤ result) × (result ≤ max from (length text.now)) }
 {
     let mut i = from;
     while i < text.len() {

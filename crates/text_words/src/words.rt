@@ -1,14 +1,14 @@
 // A line's words.
 ghost use Rattle.std.specs.Prelude.{◌≡◌, ◌≤◌, max, length, take};
 ghost use Rattle.text_words.specs.Text.{is_byte};
-ghost use Rattle.text_words.specs.Text.{seek as Text·seek, same as Text·same};
+ghost use Rattle.text_words.specs.Text as Text;
 ghost use Rattle.text_words.specs.Words.{without_return, next_word, word_at, is_empty};
-ghost use Rattle.text_words.specs.Words.{said as Words·said, part as Words·part};
+ghost use Rattle.text_words.specs.Words as Words;
 
 use crate::seek::{Sought, seek};
 
 // A word stands from `from` up to `to`; a word that is missing is empty.
-#[derive(Drop)]
+#[derive(Clone, Copy)]
 pub struct Word {
     pub from: usize,
     pub to: usize,
@@ -16,8 +16,8 @@ pub struct Word {
 
 // The place of the first such byte from `from` on, or the end.
 pub fn find(text: &[u8], from: usize, byte: u8) -> usize
-    ensures value { result ≡ Text·seek (is_byte byte) text.now from }
-    ensures lower_bound { (from ≤ result) × (result ≤ max from (length text.now)) }
+    ensures value { result ≡ Text.seek (is_byte byte) text.now from }
+    ensures within { (from ≤ result) × (result ≤ max from (length text.now)) }
 {
     seek(text, from, Sought::Byte(byte))
 }
@@ -39,7 +39,7 @@ fn without_return(line: &[u8]) -> &[u8]
 
 // What a line says: all before its CR and its comment.
 pub fn said(line: &[u8]) -> &[u8]
-    ensures { result.now ≡ Words·said line.now }
+    ensures { result.now ≡ Words.said line.now }
 {
     let text = without_return(line);
     let end = find(text, 0, b'#');
@@ -79,7 +79,7 @@ pub fn is_empty(word: Word) -> bool
 
 // The bytes of a word.
 pub fn part(text: &[u8], word: Word) -> &[u8]
-    ensures { result.now ≡ Words·part text.now word }
+    ensures { result.now ≡ Words.part text.now word }
 {
     let from = word.from;
     let to = word.to;
@@ -101,7 +101,7 @@ pub fn first_part(bytes: &[u8], n: usize) -> &[u8]
 }
 
 pub fn same(a: &[u8], b: &[u8]) -> bool
-    ensures { result ≡ Text·same a.now b.now }
+    ensures { result ≡ Text.same a.now b.now }
 {
     if a.len() != b.len() {
         return false;

@@ -3,7 +3,7 @@ use port::types::{Remote, Small, Split};
 use rules::verdict::Verdict;
 
 // A unit: its two stores, the small parts, and beside them the split in progress and the remote/local state.
-#[derive(Drop)]
+#[derive(Clone, Copy)]
 pub struct Unit {
     pub message: [u8; 1024],
     pub reply: [u8; 1024],
@@ -13,14 +13,14 @@ pub struct Unit {
 }
 
 // The unit after a call that writes no lent buffer, with its verdict.
-#[derive(Drop)]
+#[derive(Clone, Copy)]
 pub struct Done {
     pub unit: Unit,
     pub verdict: Verdict,
 }
 
 // The unit after a call that writes a lent buffer: `len` bytes of it, from its start on.
-#[derive(Drop)]
+#[derive(Clone, Copy)]
 pub struct Told {
     pub unit: Unit,
     pub verdict: Verdict,

@@ -3,7 +3,7 @@ use rules::verdict::Verdict;
 
 // Its verdict, and how many bytes of the lent buffer are its packet.
 #[repr(C)]
-#[derive(Drop)]
+#[derive(Clone, Copy)]
 pub struct Sent {
     pub verdict: Verdict,
     pub len: usize,
