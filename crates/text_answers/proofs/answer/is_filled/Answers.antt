@@ -1,5 +1,5 @@
 -- `text_answers::answer::is_filled` meets its contract: what is left decides, since what was passed is as it was filled.
-use Prim.Native.Nat.{ℕ, ◌+◌, ◌-◌, ◌≤◌, ◌<◌}
+use Prim.Native.Nat.{ℕ, ◌+◌, ◌≤◌, ◌<◌}
 use mathlib.Core.Path.{◌≡◌, refl, sym, ap, ◌∙◌}
 use mathlib.Core.Bool.{true, false}
 use mathlib.Core.List.{List, ◌∷◌}
@@ -8,11 +8,9 @@ use native.Mathlib.Numerals.{add-one}
 use lib.ListN.{length, get_or, drop, drop_of_length-le}
 use lib.Seq.{drop-cons}
 use borrow.Author.Tests.{ne_eqb}
-use Rattle.rules.specs.Choice.{◌and◌}
 use Rattle.rules.proofs.Choice.{and_left}
 use Rattle.text_answers.specs.Answer.{FILL, filled}
-use Rattle.text_answers.proofs.answer.is_filled.Statement.{statement}
-use Rattle.text_answers.proofs.answer.is_filled.Tie as tie
+use Rattle.text_answers.proofs.answer.is_filled.Goals as goal
 
 head_filled : (b : ℕ) (bytes : List ℕ) → b ≡ FILL → filled (b ∷ bytes) ≡ filled bytes
 unfolding filled ◌and◌
@@ -32,24 +30,29 @@ done : (s : List ℕ) (i : ℕ) → length s ≤ i → filled (drop i s) ≡ tru
 unfolding filled
 done s i h = ap filled (drop_of_length-le s h)
 
-abbrev invariant_loop : tie.invariant-loop
-invariant_loop bytes i₀ i = (i ≤ length bytes) × (filled bytes ≡ filled (drop i bytes))
+pub loop-i-init : goal.loop-i-init
+loop-i-init c = (omega arith, refl)
 
-abbrev decreases_loop : tie.decreases-loop
-decreases_loop bytes i₀ i = length bytes - i
+pub bounds-bytes-i : goal.bounds-bytes-i
+bounds-bytes-i c = omega arith
 
-pub is_filled_spec : {M : Type 1} → statement M
-is_filled_spec =
-    tie.close
-    (tie.spec
-    invariant_loop decreases_loop (λ c. (omega arith, refl)) (λ c. omega arith)
-    (λ c.
-    let l = c.before.before.before.loop in
-    sym (l.invariant.1 ∙ stop c.before.before.before.before.args.bytes.now l.i (omega arith) (search)))
-    (λ c. omega arith) (λ c. omega arith)
-    (λ c.
-    let l = c.before.before.before.loop in
-    (omega arith, l.invariant.1 ∙ step c.before.before.before.before.args.bytes.now l.i (omega arith) (search)))
-    (λ c.
-    let l = c.before.loop in
-    sym (l.invariant.1 ∙ done c.before.before.args.bytes.now l.i (omega arith))))
+pub returns-then-bytes-i : goal.returns-then-bytes-i
+returns-then-bytes-i c =
+    let l = c.loop-i in
+    sym (l.invariant.1 ∙ stop c.args.bytes.now l.i (omega arith) (search))
+
+pub overflow_add-i : goal.overflow_add-i
+overflow_add-i c = omega arith
+
+pub loop-i-smaller : goal.loop-i-smaller
+loop-i-smaller c = omega arith
+
+pub loop-i-preserved : goal.loop-i-preserved
+loop-i-preserved c =
+    let l = c.loop-i in
+    (omega arith, l.invariant.1 ∙ step c.args.bytes.now l.i (omega arith) (search))
+
+pub returns : goal.returns
+returns c =
+    let l = c.loop-i in
+    sym (l.invariant.1 ∙ done c.args.bytes.now l.i (omega arith))

@@ -3,7 +3,6 @@ use Prim.Native.Nat.{ℕ}
 use mathlib.Core.Path.{◌≡◌, refl, sym, ap, ◌∙◌}
 use mathlib.Core.List.{List}
 use native.Mathlib.Omega.{arith}
-use borrow.Author.Rules.{rules}
 use borrow.Author.Tests.{eq-eqb, ne_eqb}
 use lib.ListN.{length, get_or, drop, get_or-append}
 use Rattle.rules.proofs.Choice.{at_true, at_false}
@@ -14,8 +13,7 @@ use Rattle.text_words.proofs.Hex.{count_length}
 use Rattle.text_lines.specs.Given.{byte_read, status_of}
 use Rattle.text_lines.specs.declared.given.Unread.TheVariants.{NoStatus}
 use Rattle.text_lines.specs.declared.given.Status.TheVariants.{Byte, NoByte}
-use Rattle.text_lines.proofs.given.given_status.Statement.{statement}
-use Rattle.text_lines.proofs.given.given_status.Tie as tie
+use Rattle.text_lines.proofs.given.given_status.Goals as goal
 
 module _ (w : List ℕ) (n : ℕ) (e : read_hex w ≡ Count n) where
   one : (b s : List ℕ) → s ≡ over (hex_bytes w) b → n ≡ 1 → Byte (get_or s 0 0) ≡ status_of w
@@ -30,19 +28,23 @@ module _ (w : List ℕ) (n : ℕ) (e : read_hex w ≡ Count n) where
   unfolding status_of
   other q = sym (ap (λ (r : ReadHex). byte_read r (hex_bytes w)) e ∙ at_false _ _ _ (ne_eqb n 1 q))
 
-pub given_status_spec : {M : Type 1} → statement M
+pub returns-then-n-eq1 : goal.returns-then-n-eq1
 unfolding status_of
-given_status_spec =
-    tie.close
-    (tie.spec
-    (λ c κs. search rules) (λ c. search rules) (λ c. search rules)
-    (λ c.
-    let w = c.before.before.before.before.before.before.before.args.word.now in
-    let h = c.before.before.before.before.hex.ensures in
-    one w _ (sym h.0 ∙ c.before.before.read.given.1) _ _ h.1 c.if1.true)
-    (λ c. search rules) (λ c. search rules)
-    (λ c.
-    let w = c.before.before.before.before.before.before.before.args.word.now in
-    other w _ (sym c.before.before.before.before.hex.ensures.0 ∙ c.before.before.read.given.1) c.if1.false)
-    (λ c. rw (sym c.before.before.before.hex.ensures.0 ∙ c.before.read2.given.1) refl)
-    (λ c. rw (sym c.before.before.hex.ensures.0 ∙ c.enum_told.given.1) refl))
+returns-then-n-eq1 c =
+    let w = c.args.word.now in
+    let h = c.hex-read.ensures in
+    one w _ (sym h.0 ∙ c.in-Count.is) _ _ h.1 c.if-n-eq1.true
+
+pub returns-else-n-eq1 : goal.returns-else-n-eq1
+unfolding status_of
+returns-else-n-eq1 c =
+    let w = c.args.word.now in
+    other w _ (sym c.hex-read.ensures.0 ∙ c.in-Count.is) c.if-n-eq1.false
+
+pub returns-in-NotHex : goal.returns-in-NotHex
+unfolding status_of
+returns-in-NotHex c = rw (sym c.hex-read.ensures.0 ∙ c.in-NotHex.is) refl
+
+pub returns-in-Odd : goal.returns-in-Odd
+unfolding status_of
+returns-in-Odd c = rw (sym c.hex-read.ensures.0 ∙ c.in-Odd.is) refl

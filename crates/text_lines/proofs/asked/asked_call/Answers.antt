@@ -1,9 +1,9 @@
 -- `text_lines::asked::asked_call` meets its contract.
+-- whether the word that was found is empty, said of its definition
 use Prim.Native.Nat.{ℕ, ◌+◌}
 use mathlib.Core.Path.{◌≡◌, sym, ap, ap₂, ◌∙◌}
 use mathlib.Core.Bool.{Bool, true, false}
 use mathlib.Core.List.{List}
-use borrow.Author.Rules.{rules}
 use Rattle.rules.proofs.Choice.{no_true, no_false, at_true, at_false}
 use Rattle.text_words.specs.Words.{word_at, is_empty}
 use Rattle.text_words.specs.declared.words.Word.{Word}
@@ -11,10 +11,8 @@ use Rattle.text_lines.specs.Lines.{row}
 use Rattle.text_lines.specs.Asked.{asked_call}
 use Rattle.text_lines.specs.declared.asked.Asked.TheVariants.{For, TooFew, TooMany}
 use Rattle.text_lines.specs.declared.names.Name.{Name}
-use Rattle.text_lines.proofs.asked.asked_call.Statement.{statement}
-use Rattle.text_lines.proofs.asked.asked_call.Tie as tie
+use Rattle.text_lines.proofs.asked.asked_call.Goals as goal
 
--- whether the word that was found is empty, said of its definition
 held : (w v : Word) (t b : Bool) → w ≡ v → t ≡ is_empty w → t ≡ b → is_empty v ≡ b
 held w v t b p q r = sym (ap is_empty p) ∙ sym q ∙ r
 
@@ -42,25 +40,22 @@ module _ (s : List ℕ) (name : Name) (l : ℕ) (l-is : l ≡ (row name).least) 
         ap TooMany extra
         ∙ sym (at_false _ _ _ (held w _ t false needed t-is e) ∙ at_true _ _ _ (no_true _ (held x _ u false extra u-is f)))
 
-pub asked_call_spec : {M : Type 1} → statement M
-asked_call_spec =
-    tie.close
-    (tie.spec
-    (λ c κs. search rules) (λ c κs. search rules) (λ c κs. search rules) (λ c κs. search rules)
-    (λ c.
-    let a = c.before.before.before.before.before.before.args in
-    few a.text.now a.name _ c.before.before.before.before.least-words.ensures _ c.before.before.before.nth-word.ensures
-    _ c.before.before.is-empty.ensures _ c.before.if1.true c.nth-word2.ensures)
-    (λ c κs. search rules) (λ c. search rules) (λ c κs. search rules) (λ c κs. search rules) (λ c κs. search rules) (λ c κs. search rules)
-    (λ c.
-    let c6 = c.before.before.before.before.before.before in
-    let a = c6.before.before.before.before.before.args in
-    enough a.text.now a.name _ c6.before.before.before.least-words.ensures _ c6.before.before.nth-word.ensures _ c6.before.is-empty.ensures
-    c6.if1.false _ c.before.before.before.before.before.most-words.ensures.0
-    _ c.before.before.before.before.nth-word3.ensures _ c.before.before.before.is-empty2.ensures _ _
-    c.before.before.if2.true c.before.nth-word4.ensures c.nth-word5.ensures)
-    (λ c.
-    let c4 = c.before.before.before.before in
-    let a = c4.before.before.before.before.before.args in
-    many a.text.now a.name _ c4.before.before.before.least-words.ensures _ c4.before.before.nth-word.ensures _ c4.before.is-empty.ensures
-    c4.if1.false _ c.before.before.before.most-words.ensures.0 _ c.before.before.nth-word3.ensures _ c.before.is-empty2.ensures c.if2.false))
+pub returns-then-is_empty : goal.returns-then-is_empty
+returns-then-is_empty c =
+    let a = c.args in
+    few a.text.now a.name _ c.least_words.ensures _ c.nth_word-needed.ensures
+    _ c.is_empty.ensures _ c.if-is_empty.true c.nth_word.ensures
+
+pub returns-then-is_empty-2 : goal.returns-then-is_empty-2
+returns-then-is_empty-2 c =
+    let a = c.args in
+    enough a.text.now a.name _ c.least_words.ensures _ c.nth_word-needed.ensures _ c.is_empty.ensures
+    c.if-is_empty.false _ c.most_words.ensures.0
+    _ c.nth_word-extra.ensures _ c.is_empty-2.ensures _ _
+    c.if-is_empty-2.true c.nth_word-then-is_empty-2.ensures c.nth_word-then-is_empty-2-2.ensures
+
+pub returns : goal.returns
+returns c =
+    let a = c.args in
+    many a.text.now a.name _ c.least_words.ensures _ c.nth_word-needed.ensures _ c.is_empty.ensures
+    c.if-is_empty.false _ c.most_words.ensures.0 _ c.nth_word-extra.ensures _ c.is_empty-2.ensures c.if-is_empty-2.false
