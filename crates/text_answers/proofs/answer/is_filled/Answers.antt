@@ -8,6 +8,7 @@ use native.Mathlib.Numerals.{add-one}
 use lib.ListN.{length, get_or, drop, drop_of_length-le}
 use lib.Seq.{drop-cons}
 use borrow.Author.Tests.{ne_eqb}
+use Rattle.rules.specs.Choice.{◌and◌}
 use Rattle.rules.proofs.Choice.{and_left}
 use Rattle.text_answers.specs.Answer.{FILL, filled}
 use Rattle.text_answers.proofs.answer.is_filled.Goals as goal

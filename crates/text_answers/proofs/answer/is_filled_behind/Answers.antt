@@ -3,8 +3,10 @@ use Prim.Native.Nat.{ℕ, ◌≤◌, ◌<◌}
 use mathlib.Core.Path.{◌≡◌, sym}
 use mathlib.Core.Bool.{Bool, false}
 use mathlib.Core.List.{List}
+use borrow.Author.Rules.{part_to_end}
 use borrow.Author.Tests.{le-leb, lt-leb}
 use lib.ListN.{length, drop}
+use Rattle.rules.specs.Choice.{◌and◌}
 use Rattle.rules.proofs.Choice.{and_left}
 use Rattle.text_answers.specs.Answer.{filled, filled_behind}
 use Rattle.text_answers.proofs.answer.is_filled_behind.Goals as goal

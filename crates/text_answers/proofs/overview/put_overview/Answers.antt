@@ -1,13 +1,7 @@
 -- `text_answers::overview::put_overview` meets its contract.
-use mathlib.Core.Path.{◌∙◌}
 use Rattle.text_answers.specs.Overview.{overview_text}
 use Rattle.text_put.proofs.Text.{typed_then}
 use Rattle.text_answers.proofs.overview.put_overview.Goals as goal
-
-pub shape_of-out : goal.shape_of-out
-unfolding overview_text
-shape_of-out c =
-    c.put_byte.auto.0 ∙ c.put_tags-at.auto.0 ∙ c.put_reply-at.auto.0 ∙ c.put_message-at.auto.0 ∙ c.put_halts-at.auto.0 ∙ c.put_port-at.auto.0
 
 pub returns : goal.returns
 unfolding overview_text

@@ -33,18 +33,18 @@ unfolding status_of
 returns-then-n-eq1 c =
     let w = c.args.word.now in
     let h = c.hex-read.ensures in
-    one w _ (sym h.0 ∙ c.in-Count.is) _ _ h.1 c.if-n-eq1.true
+    one w _ (sym h.value ∙ c.in-Count.is) _ _ h.bytes_after c.if-n-eq1.true
 
 pub returns-else-n-eq1 : goal.returns-else-n-eq1
 unfolding status_of
 returns-else-n-eq1 c =
     let w = c.args.word.now in
-    other w _ (sym c.hex-read.ensures.0 ∙ c.in-Count.is) c.if-n-eq1.false
+    other w _ (sym c.hex-read.ensures.value ∙ c.in-Count.is) c.if-n-eq1.false
 
 pub returns-in-NotHex : goal.returns-in-NotHex
 unfolding status_of
-returns-in-NotHex c = rw (sym c.hex-read.ensures.0 ∙ c.in-NotHex.is) refl
+returns-in-NotHex c = rw (sym c.hex-read.ensures.value ∙ c.in-NotHex.is) refl
 
 pub returns-in-Odd : goal.returns-in-Odd
 unfolding status_of
-returns-in-Odd c = rw (sym c.hex-read.ensures.0 ∙ c.in-Odd.is) refl
+returns-in-Odd c = rw (sym c.hex-read.ensures.value ∙ c.in-Odd.is) refl
