@@ -1,0 +1,11 @@
+use Rattle.c_promise.proofs.Called.{on_sound, on_other}
+use mathlib.Core.Path.{refl}
+use native.Mathlib.Omega.{arith}
+use Rattle.c_thermostat.proofs.thermostat_number.Goals as goal
+
+pub returns-then-is_sound : goal.returns-then-is_sound
+returns-then-is_sound c =
+    on_sound c.is_sound.ensures (omega arith) c.if-is_sound.true (rw c.state_of.ensures at c.thermostat_gate.ensures)
+
+pub returns : goal.returns
+returns c = on_other c.is_sound.ensures (omega arith) c.if-is_sound.false refl
