@@ -4,8 +4,8 @@ use Prim.Native.Nat.{ℕ}
 use mathlib.Core.Path.{◌≡◌, refl, ap}
 use mathlib.Core.List.{List, [], ◌∷◌, ◌++◌}
 use seplogic.Ra.Ura.{Ura}
-use seplogic.Ra.TreeShare.{full_share}
-use mir.Syntax.{Name, Ty, named}
+use base.Fraction.{full_share}
+use mir.Syntax.{Callee, Ty, named}
 use mir.Val.{Val, Vals, vptr, vcons, vstruct}
 use base.Logic.{SProp, ent, sep, via, mono_l}
 use base.Fml.{Fml, GName, Lft, Share, fat, flft, fobs, fauth, fbor, fobor}
@@ -102,7 +102,7 @@ module _ {M : Type 1} (𝓤 : Ura M) (κ : Lft) (q : Share) (γ : GName) (b o : 
 
 -- a call of what meets a contract, with what the caller keeps
 module _ {M : Type 1} {𝓤 : Ura M} (𝓛 : Logic 𝓤) (C : Calls 𝓤 𝓛.H) (fm : FmC 𝓤 𝓛.H 𝓛.laws C) where
-  pub called : (f : Name) (c : Contract 𝓤) → Triple 𝓤 (C f) c → (x : c.Ghost) (Γ : List (Item 𝓤)) (Q : Val → SProp 𝓤) → ((w : Val) → ent 𝓤 (⋆ 𝓛 (raw (c.post x w) ∷ Γ)) (Q w))
+  pub called : (f : Callee) (c : Contract 𝓤) → Triple 𝓤 (C f) c → (x : c.Ghost) (Γ : List (Item 𝓤)) (Q : Val → SProp 𝓤) → ((w : Val) → ent 𝓤 (⋆ 𝓛 (raw (c.post x w) ∷ Γ)) (Q w))
       → ent 𝓤 (⋆ 𝓛 (raw (c.pre x) ∷ Γ)) (C f (c.args x) Q)
   called f c met x Γ Q k =
       via 𝓤 (sep 𝓤 (c.pre x) (⋆ 𝓛 Γ)) (pop 𝓛 (raw (c.pre x)) Γ) (via 𝓤 (sep 𝓤 (C f (c.args x) (c.post x)) (⋆ 𝓛 Γ)) (mono_l 𝓤 (⋆ 𝓛 Γ) (met x))

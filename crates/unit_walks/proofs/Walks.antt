@@ -5,9 +5,9 @@ use mathlib.Core.List.{List, [], ◌∷◌}
 use mathlib.Core.Option.{some as some'}
 use Prim.Native.Nat.{ℕ, ◌+◌}
 use seplogic.Ra.Ura.{Ura}
-use seplogic.Ra.TreeShare.{full_share}
+use base.Fraction.{full_share}
 use lib.Dec.{T as TT}
-use mir.Syntax.{Name, Sym, Lifetime, Mutability, Home, Ty, Tys, tnil, tcons, ty_struct, ty_ref, ty_int, w64, Local}
+use mir.Syntax.{Callee, Sym, Lifetime, Mutability, Home, Ty, Tys, tnil, tcons, ty_struct, ty_ref, ty_int, w64, Local}
 use mir.Syntax.{local, Body, Fn, place, deref, field, copy, rv_opd, aggregate, addr_of, seq, assign, call, return}
 use mir.Val.{Val, Vals, vptr, vnil, vcons, vstruct, has_ty, has_tys, WT, WTs}
 use mir.Fields.{get_v, set_v}
@@ -113,7 +113,7 @@ module _ {M : Type 1} {𝓤 : Ura M} {𝓛 : Logic 𝓤} {K : Type 0} where
 -- ** nine locals, and the answer is one field of what the callee answers
 
 module _ {M : Type 1} {𝓤 : Ura M} (𝓛 : Logic 𝓤) (C : Calls 𝓤 𝓛.H) (Λ : Loops 𝓤 𝓛.H) (fm : FmC 𝓤 𝓛.H 𝓛.laws C) (υ τ ς σ₂ σ₃ σ₄ ρ₁ : Ty)
-    {f : Name} {α ω τ₂ : Ty} {ℓ₁ ℓ₈ : Lifetime} {μ₁ μ₈ : Mutability} {h₀ h₁ h₂ h₃ h₄ h₅ h₆ h₇ h₈ : Home} {ν π ξ : Sym} {us ps : Tys} {d₀ d₂ d₃ d₄ c c₀ c₁ c₂ e₁ : ℕ} where
+    {f : Callee} {α ω τ₂ : Ty} {ℓ₁ ℓ₈ : Lifetime} {μ₁ μ₈ : Mutability} {h₀ h₁ h₂ h₃ h₄ h₅ h₆ h₇ h₈ : Home} {ν π ξ : Sym} {us ps : Tys} {d₀ d₂ d₃ d₄ c c₀ c₁ c₂ e₁ : ℕ} where
   open 𝓛 use {H}
 
   pub walks_nine : (fn : Fn) → ◌≡◌ {A = List Local × Body} (fn.locals, fn.body) (
@@ -168,7 +168,7 @@ module _ {M : Type 1} {𝓤 : Ura M} (𝓛 : Logic 𝓤) (C : Calls 𝓤 𝓛.H)
 -- ** eleven locals: the slice is lent again, and the answer is two fields of what the callee answers
 
 module _ {M : Type 1} {𝓤 : Ura M} (𝓛 : Logic 𝓤) (C : Calls 𝓤 𝓛.H) (Λ : Loops 𝓤 𝓛.H) (fm : FmC 𝓤 𝓛.H 𝓛.laws C) (υ τ ς σ₂ σ₃ σ₄ ρ₁ ρ₂ : Ty)
-    {f : Name} {α ω β : Ty} {ℓ₁ ℓ₂ ℓ₈ ℓ₉ : Lifetime} {μ₁ μ₂ μ₈ μ₉ : Mutability} {h₀ h₁ h₂ h₃ h₄ h₅ h₆ h₇ h₈ h₉ h₁₀ : Home} {ν π ξ χ ζ : Sym} {us ps : Tys} {d₁ d₂ d₃ d₄ c c₀ c₁ c₂ e₁ e₂ : ℕ} where
+    {f : Callee} {α ω β : Ty} {ℓ₁ ℓ₂ ℓ₈ ℓ₉ : Lifetime} {μ₁ μ₂ μ₈ μ₉ : Mutability} {h₀ h₁ h₂ h₃ h₄ h₅ h₆ h₇ h₈ h₉ h₁₀ : Home} {ν π ξ χ ζ : Sym} {us ps : Tys} {d₁ d₂ d₃ d₄ c c₀ c₁ c₂ e₁ e₂ : ℕ} where
   open 𝓛 use {H}
 
   pub walks_eleven : (fn : Fn) → ◌≡◌ {A = List Local × Body} (fn.locals, fn.body) (
