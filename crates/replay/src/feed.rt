@@ -6,8 +6,8 @@ ghost use Rattle.replay.specs.Feed.{first_feed, ended, Ends, emptied, is_nearly_
 
 use crate::line::play;
 use crate::played::Played;
-use libc::{STDERR_FILENO, STDOUT_FILENO};
 use port::types::{FULL_SPEED, Setting};
+use std::io::Print;
 use text_answers::wrong::too_long;
 use text_words::words::{Word, find, first_part, part};
 use unit::types::Unit;
@@ -54,17 +54,17 @@ fn is_nearly_full(out: &[u8], filled: usize) -> bool
 }
 
 // Writes the answers out. Where that cannot be done it says so, once, and no more is read.
-pub fn written(feed: Feed, out: &[u8]) -> Feed
+pub fn written(rt: &HostRuntime, feed: Feed, out: &[u8]) -> Feed
     ensures { result ≡ emptied feed result.going }
 {
     let mut after = feed;
     after.filled = 0;
-    if io::write_all(STDOUT_FILENO, first_part(out, feed.filled)) {
+    let done = rt.stdout().write_all(first_part(out, feed.filled));
+    if done.is_ok() {
         return after;
     }
     if feed.going {
-        io::write_all(
-            STDERR_FILENO,
+        let _said = rt.stderr().write_all(
             b"replay: standard output cannot be written, so no more calls are read\n",
         );
     }
@@ -99,18 +99,18 @@ pub fn ended(feed: Feed, line: &[u8], out: &mut [u8]) -> Feed
     }
 }
 
-fn ended_with_room(feed: Feed, line: &[u8], out: &mut [u8]) -> Feed
+fn ended_with_room(rt: &HostRuntime, feed: Feed, line: &[u8], out: &mut [u8]) -> Feed
     ensures { Passes feed line.now out.old out.new result }
 {
     if is_nearly_full(out, feed.filled) {
-        let after = written(feed, out);
+        let after = written(rt, feed, out);
         return ended(after, line, out);
     }
     ended(feed, line, out)
 }
 
 // Plays each whole line of what was read.
-pub fn whole_lines(feed: Feed, text: &[u8], out: &mut [u8]) -> Feed
+pub fn whole_lines(rt: &HostRuntime, feed: Feed, text: &[u8], out: &mut [u8]) -> Feed
     ensures { Plays feed text.now out.old out.new result }
 {
     let mut after = feed;
@@ -118,7 +118,7 @@ pub fn whole_lines(feed: Feed, text: &[u8], out: &mut [u8]) -> Feed
     let mut end = find(text, from, b'\n');
     while end < text.len() {
         let line = Word { from, to: end };
-        after = ended_with_room(after, part(text, line), out);
+        after = ended_with_room(rt, after, part(text, line), out);
         from = end + 1;
         end = find(text, from, b'\n');
     }
