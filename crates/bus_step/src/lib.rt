@@ -1,4 +1,6 @@
 // Suspend in code, decided over the small state by value.
+#![tactic(auto)]
+
 ghost use Rattle.std.specs.Prelude.{◌≡◌, [], ℕ};
 ghost use Rattle.rules.specs.Choice.{pick};
 ghost use Rattle.rules.specs.Answers.{UNSOUND};

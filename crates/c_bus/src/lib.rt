@@ -1,4 +1,6 @@
 // Power-on, and the bus's calls, on the unit in bytes.
+#![tactic(auto)]
+
 ghost use Rattle.std.specs.Prelude.{◌≡◌, []};
 ghost use Rattle.port.specs.Device.{power_on};
 ghost use Rattle.port.specs.Step.{quiet, bus_reset, bus_suspend};

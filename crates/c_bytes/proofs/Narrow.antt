@@ -4,13 +4,12 @@ use Prim.Native.Nat.{ℕ}
 use mathlib.Core.Path.{◌≡◌, refl, ap, ◌∙◌}
 use mathlib.Core.Bool.{true}
 use mathlib.Core.List.{[]}
-use mathlib.Core.Logic.{inl, inr, ⊎_elim}
+use mathlib.Core.Logic.{inl, inr}
 use native.Mathlib.Omega.{arith}
-use borrow.Author.Tests.{eqb-true}
-use Rattle.rules.specs.Choice.{◌=ᵇ◌, ◌≤ᵇ◌, ◌or◌, ◌&◌, pick}
-use Rattle.rules.proofs.Choice.{of_all, either}
+use Rattle.rules.specs.Choice.{◌≤ᵇ◌, ◌or◌, ◌&◌, pick}
+use Rattle.rules.proofs.Choice.{of_all}
 use Rattle.wire.specs.Bytes.{byte}
-use Rattle.port.specs.Parts.{FULL_SPEED, HIGH_SPEED, is_size, out_of}
+use Rattle.port.specs.Parts.{out_of}
 use Rattle.port.specs.Sound.{sound}
 use Rattle.port.specs.Device.{Device, is_sound}
 use Rattle.port.specs.Laws.{Stored}

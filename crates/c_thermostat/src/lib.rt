@@ -1,4 +1,6 @@
 // The thermostat's calls, on the unit in bytes: each is decided over the state, and writes no more than the part that it sets.
+#![tactic(auto)]
+
 ghost use Rattle.std.specs.Prelude.{◌≡◌, length};
 ghost use Rattle.port.specs.Calls.{thermostat_rules, take_rules, offer_rules};
 ghost use Rattle.port.specs.Step.{quiet, take_into, offer_reply, set_status, front_panel};

@@ -7,13 +7,12 @@ use mathlib.Core.List.{List}
 use mathlib.Core.Logic.{◌⊎◌, inl, inr}
 use lib.ListN.{length}
 use borrow.Author.Tests.{eqb-true, eqb-false}
-use Rattle.rules.specs.Choice.{◌=ᵇ◌, ◌<ᵇ◌, decide}
+use Rattle.rules.specs.Choice.{◌=ᵇ◌, ◌<ᵇ◌}
 use Rattle.rules.specs.Answers.{DONE, UNCONFIGURED, WRONG_SIZE, HALTED, WAIT, NOT_IN_FOURS, SHORT_HEADER, BAD_TAG}
 use Rattle.rules.specs.Answers.{UNKNOWN_MSGID, RESERVED, WRONG_LENGTH, TOO_LONG, OUT_OF_TURN}
 use Rattle.rules.proofs.Choice.{pick_all, decide_all, at_true, at_false, and_left, and_both, neb_ne, neb_eq}
 use Rattle.wire.specs.Header.{HEADER, DEV_DEP_MSG_OUT, REQUEST_DEV_DEP_MSG_IN, MsgID, message_rules, request_rules}
 use Rattle.wire.specs.Header.{trigger_rules, reading_rules, read_message, read_request, read_trigger, read_header}
-use Rattle.wire.specs.declared.types.Header.{Header}
 use Rattle.wire.specs.declared.types.Read.{Read}
 use Rattle.wire.specs.declared.types.Read.TheVariants.{Good, Fault}
 use Rattle.port.specs.Parts.{packet_size, is_open_out, out_of}

@@ -7,7 +7,7 @@ use mathlib.Core.Bool.{Bool, true, false}
 use mathlib.Core.List.{List, [], ◌∷◌, ◌++◌, nil≢cons}
 use mathlib.Core.Logic.{◌⊎◌, inl, inr, ⊎_elim}
 use native.Mathlib.Omega.{arith}
-use lib.ListN.{length, take, drop, replicate, length-append}
+use lib.ListN.{length, take, drop, length-append}
 use lib.Seq.{take_at, drop_at, take_all}
 use borrow.Author.Tests.{eqb-true, eqb-false, eq-eqb, ne_eqb, lt-ltb, le-ltb, le-leb}
 use Rattle.rules.specs.Choice.{◌=ᵇ◌, ◌<ᵇ◌, ◌≤ᵇ◌, pick, ◌or◌, ◌and◌}
@@ -15,7 +15,7 @@ use Rattle.rules.specs.When.{Not}
 use Rattle.rules.proofs.Choice.{pick_all, at_true, at_false, or_left, or_right, and_both}
 use Rattle.wire.specs.When.{at, four_at}
 use Rattle.port.specs.When.{padded}
-use Rattle.claims.specs.Command.{Piece, command, header, packets, mark, sending, IsRequest, IsTrigger, Others}
+use Rattle.claims.specs.Command.{Piece, command, header, mark, sending, IsRequest, IsTrigger, Others}
 use Rattle.port.specs.Trace.{Event}
 use Rattle.port.proofs.KeepsOut.{cases}
 use Rattle.claims.specs.Wire.{Heard, nothing, accepted, broken_off, wiped_out, handed_over, heard_of}

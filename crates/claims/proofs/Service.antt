@@ -5,10 +5,10 @@ use mathlib.Core.Path.{◌≡◌, refl, sym, ap, ◌∙◌, subst}
 use mathlib.Core.Bool.{Bool, true, false, true≢false, false≢true}
 use mathlib.Core.List.{List, [], ◌∷◌, ◌++◌, append_assoc, append-nil}
 use native.Mathlib.Omega.{arith}
-use borrow.Author.Tests.{eq-eqb, eqb-true, eqb-false}
+use borrow.Author.Tests.{eq-eqb, eqb-true}
 use Rattle.rules.specs.Choice.{◌=ᵇ◌, ◌and◌, pick}
 use Rattle.rules.specs.When.{Not}
-use Rattle.rules.proofs.Choice.{pick_all, at_true, at_false, both_left, both_right, and_both}
+use Rattle.rules.proofs.Choice.{pick_all, at_true, at_false, both_left, both_right}
 use Rattle.wire.specs.When.{at}
 use Rattle.port.specs.Answer.{Answer}
 use Rattle.port.specs.Device.{power_on}
@@ -17,7 +17,7 @@ use Rattle.port.specs.Step.{in_poll, interrupt_poll, offer_reply, set_status, fr
 use Rattle.port.specs.Step.{Call, setup_packet, out_packet, take_into, bus_reset, quiet, step}
 use Rattle.port.specs.Trace.{Event, trace}
 use Rattle.port.proofs.Service.{status_told_ever}
-use Rattle.claims.specs.Service.{sets, polls, reads, Takes, Undisturbed, set_by, last_set, Brings, NoRequestLost, StatusComes}
+use Rattle.claims.specs.Service.{polls, reads, Takes, Undisturbed, set_by, last_set, Brings, NoRequestLost, StatusComes}
 use Rattle.claims.specs.Service.{made, wiped, requests_after, brought, UsesUp, NoneMadeUpFrom, NoneMadeUp}
 
 -- ** lists and histories

@@ -1,6 +1,6 @@
 -- Ports that are ours but for Interrupt-IN, each wrong in one way: what NoRequestLost and NoneMadeUp are there to shut out.
 -- Assumes nothing.
-use Prim.Native.Nat.{ℕ, ◌+◌, suc}
+use Prim.Native.Nat.{ℕ}
 use mathlib.Core.Path.{◌≡◌, refl, sym, ap}
 use mathlib.Core.List.{List, [], ◌∷◌, ◌++◌, tail-eq_of_cons-eq}
 use native.Mathlib.Omega.{arith}
@@ -8,10 +8,10 @@ use lib.ListN.{length, length-append}
 use Rattle.rules.specs.Choice.{◌=ᵇ◌, ◌and◌, pick}
 use Rattle.rules.specs.Answers.{WAIT}
 use Rattle.wire.specs.When.{at}
-use Rattle.port.specs.Parts.{interrupt_of, with_interrupt, with_waiting, with_status, no_packet}
-use Rattle.port.specs.Answer.{Answer, numbered}
+use Rattle.port.specs.Parts.{interrupt_of, with_interrupt, with_waiting, no_packet}
+use Rattle.port.specs.Answer.{numbered}
 use Rattle.port.specs.Interrupt.{asks_service, without_bit_6, service_request, is_waiting}
-use Rattle.port.specs.Device.{Device, Result, with_state}
+use Rattle.port.specs.Device.{Result, with_state}
 use Rattle.port.specs.Calls.{refused}
 use Rattle.port.specs.Cases.{gives}
 use Rattle.port.specs.Laws.{INITIATE_CLEAR, SET_CONFIGURATION}
@@ -22,7 +22,7 @@ use Rattle.port.specs.Trace.{Event, trace}
 use Rattle.port.specs.declared.types.InterruptIn.{InterruptIn}
 use Rattle.port.specs.declared.types.Setting.{Setting}
 use Rattle.port.proofs.Opened.{computed}
-use Rattle.claims.specs.Service.{event, sets, polls, NoRequestLost, NoneMadeUp, requests_after}
+use Rattle.claims.specs.Service.{event, NoRequestLost, NoneMadeUp, requests_after}
 
 -- ** ports that do more to the endpoint than ours, or less: by the call, the endpoint before it and the endpoint behind it
 

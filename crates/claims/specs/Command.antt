@@ -1,7 +1,7 @@
 -- How a host sends a command, byte by byte: cut into transfers of one byte or more, each a header, its data and its alignment bytes, cut into packets of P.
 -- And the two other headers that a host sends. Nothing here is the port's: no unit, no reader, no rule.
 -- Assumes nothing.
-use Rattle.std.specs.Prelude.{ℕ, zero, suc, ◌+◌, ◌-◌, ◌/◌, ◌%◌, ◌≤◌, ◌≡◌, List, [], ◌∷◌, ◌++◌, ◌⊎◌, length, take, drop, replicate}
+use Rattle.std.specs.Prelude.{ℕ, zero, suc, ◌-◌, ◌/◌, ◌%◌, ◌≤◌, ◌≡◌, List, [], ◌∷◌, ◌++◌, ◌⊎◌, length, take, drop, replicate}
 
 -- a transfer of a command: the empty packets that come before it, its tag, its data, and the alignment bytes that the host leaves behind them
 pub record Piece : Type 0 where

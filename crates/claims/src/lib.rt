@@ -1,1 +1,3 @@
+#![tactic(auto)]
+
 // What is claimed of the port: definitions and proofs alone.

@@ -1,1 +1,3 @@
+#![tactic(auto)]
+
 // What a caller has seen of its calls: definitions and proofs alone.

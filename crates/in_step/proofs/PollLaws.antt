@@ -4,19 +4,18 @@ use Prim.Native.Nat.{ℕ, zero, suc, ◌+◌, ◌-◌, ◌≤◌, ◌<◌, min}
 use mathlib.Core.Path.{◌≡◌, refl, sym, ap, ◌∙◌, subst}
 use mathlib.Core.Bool.{Bool, true, false, true≢false}
 use mathlib.Core.List.{List, [], ◌∷◌, ◌++◌}
-use mathlib.Core.Logic.{⊎_elim}
 use native.Mathlib.Omega.{arith}
 use native.Mathlib.Numerals.{add-one}
 use lib.ListN.{length, get_or, take, drop, length-append, length-take, length-drop}
 use lib.Seq.{paste, drop-cons, drop-length, length-take-le, take_all, take-take, take-append-add, take_at, drop-append-add, drop-drop, get_or-take, get_or-drop}
-use borrow.Author.Tests.{eq-eqb, ne_eqb, eqb-true, ltb-false, leb-true, leb-false}
+use borrow.Author.Tests.{eq-eqb, ne_eqb, ltb-false, leb-true, leb-false}
 use Rattle.rules.specs.Choice.{◌=ᵇ◌, ◌<ᵇ◌, ◌≤ᵇ◌, pick, first}
 use Rattle.rules.specs.Answers.{done}
 use Rattle.rules.proofs.Choice.{NoneOf, no_true, no_false, ne_neb, eq_neb, or_left, or_right, or_none, and_both, and_left, and_right}
-use Rattle.rules.proofs.Choice.{either, pick_true, pick_false, at_true, at_false, pick_all, decide_all, refuses, passes}
+use Rattle.rules.proofs.Choice.{pick_true, pick_false, at_true, at_false, pick_all, decide_all, refuses, passes}
 use Rattle.wire.specs.Bytes.{byte, bytes4, into}
 use Rattle.wire.specs.Header.{HEADER, D1, in_header}
-use Rattle.port.specs.Parts.{STORE, FULL_SPEED, HIGH_SPEED, CLOSED, ASKED, SENDING, OWED, on, is_size, in_of, packet_size, with_in, shut}
+use Rattle.port.specs.Parts.{STORE, CLOSED, ASKED, SENDING, OWED, on, is_size, in_of, packet_size, with_in, shut}
 use Rattle.port.specs.Sound.{sound}
 use Rattle.port.specs.Answer.{refuse}
 use Rattle.port.specs.In.{Packet, up_to, sendable, term_mark, marks, fixed, header, started, to_go, gone, send, next_packet, nothing_to_send, in_rules, sends, poll}

@@ -22,7 +22,7 @@ use Rattle.port.specs.Calls.{refused, with_message, bulk_out}
 use Rattle.port.specs.Device.{Device, Result, is_sound}
 use Rattle.port.specs.Out.{more, header_says, out_rules, outcome, planned, accepted, out_plan}
 use Rattle.port.specs.Parts.{is_open_out, packet_size, out_of}
-use Rattle.port.specs.Step.{out_packet, soundly, step}
+use Rattle.port.specs.Step.{soundly, step}
 use Rattle.port.specs.declared.types.Outcome.{Outcome}
 use Rattle.port.specs.declared.types.Outcome.TheVariants.{Keep, Halt, Data, Accept}
 use Rattle.port.specs.declared.types.State.{State}

@@ -9,7 +9,7 @@ use native.Mathlib.Omega.{arith}
 use lib.ListN.{length}
 use borrow.Author.Tests.{eqb-true, eqb-false, ltb-true, ltb-false, lt-ltb}
 use Rattle.rules.specs.Choice.{◌=ᵇ◌, ◌≠ᵇ◌, ◌<ᵇ◌, no}
-use Rattle.rules.proofs.Choice.{pick_all, none_right, not_both, either}
+use Rattle.rules.proofs.Choice.{pick_all, none_right, not_both}
 use Rattle.rules.specs.Flags.{ON}
 use Rattle.wire.specs.Header.{HEADER, aligned}
 use Rattle.wire.specs.declared.types.Header.{Header}

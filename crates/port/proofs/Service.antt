@@ -1,10 +1,10 @@
 -- The law of Interrupt-IN (Service): what one counts who sees calls and answers is what the unit holds, call by call, and so every packet is the one that waits.
 -- Assumes nothing.
-use Prim.Native.Nat.{ℕ, ◌+◌, ◌-◌, ◌*◌, ◌/◌, ◌%◌, ◌≤◌}
+use Prim.Native.Nat.{ℕ, ◌+◌, ◌-◌, ◌/◌, ◌%◌, ◌≤◌}
 use mathlib.Core.Path.{◌≡◌, refl, sym, ap, ◌∙◌, subst}
 use mathlib.Core.Bool.{Bool, true, false, false≢true}
 use mathlib.Core.List.{List, [], ◌∷◌}
-use mathlib.Core.Logic.{◌⊎◌, inl, inr, ⊎_elim}
+use mathlib.Core.Logic.{⊎_elim}
 use native.Mathlib.Omega.{arith}
 use lib.ListN.{length}
 use borrow.Author.Tests.{eq-eqb, ne_eqb, eqb-true}
@@ -35,15 +35,14 @@ use Rattle.port.specs.Rows.{Reaction, answering, abort_rules, out_tag, in_tag, i
 use Rattle.port.specs.Rows.{check_abort_out, check_abort_in, initiate_clear, check_clear, read_status, answer_row}
 use Rattle.port.specs.Rows.{clearing, effected}
 use Rattle.port.specs.Device.{Device, Result, is_sound, with_state, made, power_on}
-use Rattle.port.specs.Calls.{refused, said, with_message, bulk_out, bulk_in, interrupt_in, setup_rules, asked, setup_outcome}
-use Rattle.port.specs.Calls.{answered, setup, take_rules, taking, take_message, offer_rules, offer_plan, with_reply, offer}
+use Rattle.port.specs.Calls.{refused, said, bulk_out, bulk_in, interrupt_in, setup_rules, asked, setup_outcome}
+use Rattle.port.specs.Calls.{answered, setup, take_rules, taking, take_message, offer_rules, offer_plan, offer}
 use Rattle.port.specs.Calls.{thermostat_rules, status_set, set_status_byte, returned, panel, reset_by_bus, suspend}
 use Rattle.port.specs.Step.{in_poll, interrupt_poll, offer_reply, set_status, front_panel, bus_suspend, SetupPacket}
 use Rattle.port.specs.Step.{Call, setup_packet, out_packet, take_into, bus_reset, quiet, quietly, soundly, step}
 use Rattle.port.specs.Trace.{trace}
-use Rattle.port.specs.Service.{Watch, unwatched, bit6, none, behind, after_status, reads_status, after_request, watch_call}
+use Rattle.port.specs.Service.{Watch, unwatched, none, behind, after_status, reads_status, after_request, watch_call}
 use Rattle.port.specs.Service.{watched, StatusAnswered, Tells, Watching, watch_of, StatusTold, StatusToldEver}
-use Rattle.port.specs.declared.types.Notify.{Notify}
 use Rattle.port.specs.declared.types.InterruptIn.{InterruptIn}
 use Rattle.port.specs.declared.types.Split.{Split}
 use Rattle.port.specs.declared.types.Split.TheVariants.{None, AbortOut, AbortIn, Clear}
@@ -54,7 +53,7 @@ use Rattle.port.specs.declared.types.Outcome.TheVariants.{Keep, Halt, Data, Acce
 use Rattle.port.specs.declared.types.SetupOutcome.{SetupOutcome}
 use Rattle.port.specs.declared.types.SetupOutcome.TheVariants.{Denies, Answers}
 use Rattle.port.proofs.Calls.{step_sound, keeps_sound, power_on_sound, row_done}
-use Rattle.port.proofs.Readers.{Found, find, ◌▹◌}
+use Rattle.port.proofs.Readers.{find, ◌▹◌}
 
 -- ** the endpoint, as one sees it who counts
 

@@ -17,7 +17,7 @@ use Rattle.rules.proofs.Choice.{pick_all, no_true, no_false, neb_ne, neb_eq}
 use Rattle.rules.proofs.When.{Tells, in_words, equals, differs, is_less, negated, one_of, decided, both_of, By, through, line}
 use Rattle.wire.specs.Header.{HEADER, read_header}
 use Rattle.wire.specs.Setup.{read_setup}
-use Rattle.wire.specs.When.{four_at, Commands, Requests, Triggers, rows, Matches, Means}
+use Rattle.wire.specs.When.{Commands, Requests, Triggers, rows, Matches, Means}
 use Rattle.wire.specs.declared.types.Header.{Header}
 use Rattle.wire.specs.declared.types.Header.TheVariants.{Message, Request, Trigger}
 use Rattle.wire.specs.declared.types.Read.TheVariants.{Good}

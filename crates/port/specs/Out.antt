@@ -1,8 +1,8 @@
 -- A Bulk-OUT packet: what it comes to, and then what that leaves. A transfer is its header, its data bytes and their alignment; packets
 -- are the pieces that it comes in. 01, "Bulk-OUT".
 -- Assumes nothing.
-use Rattle.std.specs.Prelude.{ℕ, ◌+◌, ◌-◌, ◌%◌, ◌≤◌, min, ◌≡◌, Bool, false, List, [], length}
-use Rattle.rules.specs.Choice.{◌=ᵇ◌, ◌≠ᵇ◌, ◌<ᵇ◌, no, ◌or◌, ◌and◌, pick, ◌⇒◌∣◌, decide}
+use Rattle.std.specs.Prelude.{ℕ, ◌+◌, ◌-◌, ◌≤◌, min, ◌≡◌, Bool, false, List, [], length}
+use Rattle.rules.specs.Choice.{◌=ᵇ◌, ◌<ᵇ◌, no, ◌or◌, ◌and◌, pick, ◌⇒◌∣◌, decide}
 use Rattle.rules.specs.Answers.{DONE, UNCONFIGURED, WRONG_SIZE, HALTED, WAIT, NOT_IN_FOURS, WRONG_LENGTH}
 use Rattle.rules.specs.Answers.{TOO_LONG, OUT_OF_TURN, TELLS_TRIGGER, only, done}
 use Rattle.rules.specs.declared.verdict.Verdict.{Verdict}

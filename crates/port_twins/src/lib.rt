@@ -1,1 +1,3 @@
+#![tactic(auto)]
+
 // Two units that agree in what counts of them answer alike: a proof alone.

@@ -4,7 +4,7 @@ use Prim.Native.Nat.{ℕ, ◌+◌, ◌≤◌, ◌<◌}
 use Prim.Native.Char.{code}
 use mathlib.Core.Path.{◌≡◌, refl, sym, ap, ◌∙◌}
 use mathlib.Core.Bool.{true, false}
-use mathlib.Core.List.{List, [], ◌∷◌}
+use mathlib.Core.List.{List}
 use lib.ListN.{length, drop}
 use lib.Seq.{slice}
 use Rattle.rules.proofs.Choice.{at_true, at_false}
@@ -15,7 +15,7 @@ use Rattle.text_words.specs.Cut.{Cut, cut}
 use Rattle.text_words.proofs.Cut.{next_line, last_line}
 use Rattle.unit.specs.Promise.{device_of}
 use Rattle.replay.specs.Played.{Puts}
-use Rattle.replay.specs.Feed.{Standing, standing, ended, answered_line, Ends, emptied, written_out, is_nearly_full, with_room}
+use Rattle.replay.specs.Feed.{Standing, standing, ended, answered_line, Ends, emptied, written_out, is_nearly_full}
 use Rattle.replay.specs.Feed.{Passes, after_lines, Plays, PlaysOut}
 use Rattle.replay.specs.declared.feed.Feed.{Feed}
 use Rattle.replay.specs.declared.played.Played.{Played}

@@ -23,7 +23,7 @@ use Rattle.text_put.specs.Numbers.{hex_text}
 use Rattle.text_answers.specs.Answer.{FILL, filled, filled_behind, verdict_text, done_text, end_text, told_text}
 use Rattle.unit.specs.Promise.{told_of, Tells}
 use Rattle.unit.specs.declared.types.Told.{Told}
-use Rattle.replay.specs.Play.{After, bytes_text, told}
+use Rattle.replay.specs.Play.{bytes_text, told}
 use Rattle.replay.specs.Played.{shown}
 
 -- ** a buffer that is filled, and parts of it

@@ -1,4 +1,6 @@
 // Plays calls: reads one a line from standard input, and writes one line for each to standard output.
+#![tactic(auto)]
+
 mod calls; // each call with its words
 mod feed; // the lines in what was read
 mod lent; // the calls that are lent a buffer

@@ -1,5 +1,7 @@
 // The numbers of document 01's table, its statuses, and what an answer tells, by name, for code. specs/Answers.antt gives the
 // definitions theirs; code that used one number for another would not be proved.
+#![tactic(auto)]
+
 pub mod verdict; // what every answer says beside its bytes
 
 pub const DONE: u8 = 0;

@@ -1,5 +1,7 @@
 // The port as C calls it: include/tewennos.h says what each function is for. A unit is bytes in C's memory, altered where they stand. Crate tewennos_c
 // exports the functions, each under its name here.
+#![tactic(auto)]
+
 ghost use Rattle.std.specs.Prelude.{length};
 ghost use Rattle.port.specs.Device.{power_on};
 ghost use Rattle.port.specs.Step.{quiet, in_poll, interrupt_poll, offer_reply, set_status, front_panel};

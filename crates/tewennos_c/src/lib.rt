@@ -1,4 +1,6 @@
 // The functions of include/tewennos.h, exported for C: each calls the one of its name in crate tewennos, and promises what that one promises.
+#![tactic(auto)]
+
 ghost use Rattle.std.specs.Prelude.{length};
 ghost use Rattle.port.specs.Device.{power_on};
 ghost use Rattle.port.specs.Step.{quiet, in_poll, interrupt_poll, offer_reply, set_status, front_panel};

@@ -7,7 +7,7 @@ use Rattle.text_put.specs.Text.{ascii, spelled, ◌then◌}
 use Rattle.text_put.specs.Numbers.{digit_of, zeros_in_front, hex_text}
 use Rattle.text_answers.specs.Answer.{FILL, tells_text, verdict_text, done_text, filled, filled_behind, end_text, told_text}
 use Rattle.text_answers.specs.Overview.{flag_text, halted_text, port_text, halts_text, message_text, reply_text, tags_text, overview_text, notify_text, more_text}
-use Rattle.text_answers.specs.Wrong.{shown_byte, quoted_text, wrong_text, unknown_name_text, too_large_text, no_hex_digit_text}
+use Rattle.text_answers.specs.Wrong.{shown_byte, quoted_text, wrong_text, too_large_text, no_hex_digit_text}
 
 dones : (done_text (record { number = 13; tells = 0 }) ≡ ascii "13\n") × (done_text (record { number = 0; tells = 1 }) ≡ ascii "0 trigger\n")
 unfolding digit_of zeros_in_front tells_text verdict_text done_text ◌then◌ pick

@@ -9,7 +9,7 @@ use Rattle.text_words.specs.Words.{without_return, said}
 use Rattle.text_words.specs.Numbers.{read_decimal, nibble, read_hex}
 use Rattle.text_lines.specs.Given.{size_of, length_of, given_by, status_of}
 use Rattle.text_lines.specs.Lines.{of_length, of_the_call, nothing, wrong, no_call, too_few, too_many, unread}
-use Rattle.text_lines.specs.Lines.{power, setup, out, in_poll, take_into, status, suspend, name_of, meaning}
+use Rattle.text_lines.specs.Lines.{setup, out, in_poll, take_into, status, suspend, name_of, meaning}
 use Rattle.text_lines.specs.declared.given.Unread.TheVariants.{NoDecimal, Above, NoStatus}
 
 takes_five : meaning (ascii "take 5") ≡ take_into (of_length 5)

@@ -8,7 +8,7 @@ use Rattle.rules.specs.Choice.{no, pick}
 use Rattle.rules.proofs.Choice.{pick_both}
 use Rattle.text_words.specs.Words.{said, word}
 use Rattle.text_words.proofs.Places.{part_word, empty_missing, line_part}
-use Rattle.text_lines.specs.Lines.{Meaning, nothing, wrong, no_call, too_few, too_many, row, name_of, by_name, meaning_of, meaning}
+use Rattle.text_lines.specs.Lines.{Meaning, wrong, no_call, too_few, too_many, row, name_of, by_name, meaning_of, meaning}
 use Rattle.text_lines.specs.Asked.{asked_call, asked_by, asked_text, asked, meant}
 use Rattle.text_lines.specs.declared.asked.Asked.{Asked}
 use Rattle.text_lines.specs.declared.names.Named.{Named}

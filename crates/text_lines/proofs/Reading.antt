@@ -5,7 +5,7 @@ use mathlib.Core.Path.{◌≡◌}
 use mathlib.Core.List.{List}
 use native.Mathlib.Omega.{arith}
 use borrow.Author.Tests.{ltb-false}
-use lib.ListN.{length, take}
+use lib.ListN.{take}
 use Rattle.rules.proofs.Choice.{pick_all}
 use Rattle.text_words.specs.Numbers.{number, read_decimal, read_hex, hex_bytes, over}
 use Rattle.text_words.specs.declared.numbers.ReadDecimal.{ReadDecimal}

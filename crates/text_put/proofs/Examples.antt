@@ -3,7 +3,7 @@ use mathlib.Core.Path.{◌≡◌, refl}
 use mathlib.Core.List.{[], ◌∷◌}
 use Rattle.rules.specs.Choice.{pick}
 use Rattle.text_put.specs.Text.{ascii, spelled, typed_byte, typed}
-use Rattle.text_put.specs.Numbers.{digit_of, zeros_in_front, decimal_text, pair_text, hex_text}
+use Rattle.text_put.specs.Numbers.{digit_of, zeros_in_front, decimal_text, hex_text}
 
 decimals : (decimal_text 0 ≡ ascii "0") × (decimal_text 10 ≡ ascii "10") × (decimal_text 907 ≡ ascii "907") × (decimal_text 1024 ≡ ascii "1024") × (decimal_text 65535 ≡ ascii "65535")
 unfolding digit_of zeros_in_front pick

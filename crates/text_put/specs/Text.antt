@@ -1,7 +1,7 @@
 -- Text, and what becomes of a lent buffer that it is put into. A text is a list of bytes. The laws are in proofs/Text.antt.
 -- Assumes nothing.
 use Rattle.std.specs.Prelude.{ℕ, ◌+◌, List, [], ◌∷◌, ◌++◌, length, set}
-use Prim.Native.Char.{Char, code}
+use Prim.Native.Char.{code}
 use Prim.Native.String.{String, [] as []ˢ, ◌∷◌ as ◌∷ˢ◌}
 use Rattle.rules.specs.Choice.{◌<ᵇ◌, pick}
 

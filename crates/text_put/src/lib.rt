@@ -1,4 +1,6 @@
 // Text into a lent buffer. Each function puts bytes from `at` on and hands back the place behind them; what does not fit is left out.
+#![tactic(auto)]
+
 ghost use Rattle.std.specs.Prelude.{◌≡◌, ◌∷◌, [], ◌%◌, ◌<◌, ◌≤◌};
 ghost use Rattle.text_put.specs.Text.{typed, spelled};
 ghost use Rattle.text_put.specs.Numbers.{digit_of, five_digits, zeros_in_front, decimal_text, pair_text, hex_text};

@@ -1,4 +1,6 @@
 // The unit and its calls.
+#![tactic(auto)]
+
 pub mod apart; // the state of a unit, and a state put back
 pub mod interrupt; // an Interrupt-IN poll
 pub mod message; // take

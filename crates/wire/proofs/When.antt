@@ -16,15 +16,13 @@ use Rattle.rules.specs.When.{Not, ◌when◌∣◌, else_0}
 use Rattle.rules.proofs.Choice.{pick_all, AllOf, all_of, of_all}
 use Rattle.rules.proofs.When.{Tells, in_words, equals, differs, is_less, negated, one_of, decided, sure, By, line, shared, line_in_words}
 use Rattle.wire.specs.Bytes.{all_zero, number4, zeros}
-use Rattle.rules.specs.Flags.{OFF, ON}
-use Rattle.wire.specs.Header.{HEADER, DEV_DEP_MSG_OUT, REQUEST_DEV_DEP_MSG_IN, MsgID, bTag, TransferSize, TermChar}
+use Rattle.wire.specs.Header.{HEADER, DEV_DEP_MSG_OUT, REQUEST_DEV_DEP_MSG_IN, MsgID, TransferSize}
 use Rattle.wire.specs.Header.{D1, read_message, read_request, read_trigger, read_header, header_number}
 use Rattle.wire.specs.Setup.{fitting, matches, row, by_endpoint, to_endpoint, to_interface, to_feature, to_status, to_device, read_setup}
 use Rattle.wire.specs.When.{at, two_at, four_at, Zeros, Commands, Requests, Triggers, UnknownMsgID, BadCommand}
 use Rattle.wire.specs.When.{BadRequest, BadTrigger, Reserved, Means, header_given, HeaderLaw}
 use Rattle.wire.specs.When.{Column, ◌∣◌∣◌to◌∣◌∣◌▹◌∣◌, rows, Fits, Matches, SetupLaw}
 use Rattle.wire.specs.declared.types.Header.{Header}
-use Rattle.wire.specs.declared.types.Header.TheVariants.{Request}
 use Rattle.wire.specs.declared.types.Read.{Read}
 use Rattle.wire.specs.declared.types.Read.TheVariants.{Good, Fault}
 use Rattle.wire.specs.declared.types.Endpoint.{Endpoint}

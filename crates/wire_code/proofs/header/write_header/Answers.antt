@@ -55,6 +55,6 @@ shape_of-buf c = simp length-set
 
 pub returns : goal.returns
 unfolding in_header bytes4
-returns c = 
+returns c =
     let a = c.args in
     rw c.bytes_of-size.ensures (sets-eq (in_header a.tag a.n a.attributes) a.buf.now 0 (omega arith))
