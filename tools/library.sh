@@ -6,7 +6,8 @@
 #                                 `help` says it too, exit 0
 #     find_tools                  the compiler for x86-64 and, on another processor, the emulator; or says what to install, exit 2
 #     find_library                the library, built where it is not there or is older than crates/; exit 1 where it cannot be
-#     find_kit                    the Rattle toolchain: `kit`, `kit_own` with what is of this machine, `kit_clang`; or says what to install, exit 2
+#     find_kit                    the Rattle toolchain: `kit`, and `kit_clang`, its clang; or says what to install, exit 2
+#     build_program               the program replay, proved and built, as target/bin/replay
 #     compile PROGRAM FILE..      with warnings as errors, linked with the library; the header stands in include/
 #     try_header                  as C++, where a compiler for it is there
 #     start PROGRAM WORD..        runs it
@@ -64,18 +65,26 @@ need_rt() {
 
 find_kit() {
     need_rt
-    kit=$(dirname "$(dirname "$(rt doc)")")
-    kit_own=$kit/on/$(uname -m)
-    kit_clang=$kit_own/toolchain/bin/clang
+    kit=$(dirname "$(rt doc)")
+    kit_clang=$kit/toolchain/bin/clang
     [ -x "$kit_clang" ] || stop "the Rattle toolchain at $kit has no clang for this machine at $kit_clang: get one that has" 2
 }
 
-# The library is there, and nothing of what it is made from is newer.
-is_current() { [ -f "$library" ] && [ -z "$(find crates crates.txt -newer "$library" -print -quit)" ]; }
+# What was built is there, and nothing of what it is made from is newer.
+is_current() { is_newer "$library"; }
+is_newer() { [ -f "$1" ] && [ -z "$(find crates crates.txt -regex 'crates/[^/]*/out' -prune -o -newer "$1" -type f -print -quit)" ]; }
 
-# `rt staticlib` proves one crate after the other, and `rt check` as many at a time as there are processors.
-# shellcheck disable=SC2046 # names of crates have no blanks
-build_library() { rt check $(sed -n 's/^tewennos: *//p' crates.txt) && rt staticlib tewennos; }
+# The archive of tewennos_c under the name that C's users know.
+build_library() {
+    (cd crates/tewennos_c && "${rt[@]}" lib) && mkdir -p target/staticlib &&
+        cp crates/tewennos_c/out/libtewennos_c.a target/staticlib/libtewennos.a
+}
+rt=(rt)
+
+build_program() {
+    (cd crates/replay && rt run </dev/null) && mkdir -p target/bin &&
+        cp crates/replay/out/replay target/bin/replay.$$ && mv target/bin/replay.$$ target/bin/replay
+}
 
 find_library() {
     library=${TEWENNOS_LIBRARY:-target/staticlib/libtewennos.a}
@@ -85,8 +94,8 @@ find_library() {
     fi
     if is_current; then return; fi
     need_rt
-    prove target/log/library.out tewennos build_library || stop "the library is not proved, or not built: see above"
-    [ -f "$library" ] || stop "'rt staticlib tewennos' ended well and left no $library: target/log/library.out has what it said"
+    prove target/log/library.out tewennos_c build_library || stop "the library is not proved, or not built: see above"
+    [ -f "$library" ] || stop "'rt lib' in crates/tewennos_c ended well and left no $library: target/log/library.out has what it said"
     # One that was current for rt keeps its old date.
     touch "$library"
 }

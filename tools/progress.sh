@@ -2,17 +2,15 @@
 # How a command that proves is run, so that whoever waits for it sees how far it is. Sourced, by scripts that have gone to the root of the
 # repository and have set `me`, the name that they speak under.
 #
-#     prove LOG CRATES COMMAND..    runs the command, which proves these crates (one word, with blanks) and all that they use. What it writes goes
-#                                   to LOG. Standard error says which crate is begun, the how many-th of how many that is, and how long it has taken
-#                                   until then: one line that is written anew on a terminal, and else a line for each crate. A crate that is
-#                                   up to date has no line, so that nothing is said where all of them are. Where the command fails, it is said which
-#                                   crate it failed at, where the log stands and what to do. The status is the command's own.
+#     prove LOG CRATE COMMAND..     runs the command, which proves this crate and all that it uses. What it writes goes to LOG. Standard error says which
+#                                   crate is begun, the how many-th of how many that is, and how long it has taken until then: one line that is written
+#                                   anew on a terminal, and else a line for each crate. A crate that is up to date has no line, so that nothing is said
+#                                   where all of them are. Where the command fails, it is said which crate it failed at, where the log stands and what
+#                                   to do. The status is the command's own.
 #     time_since SECOND             how long ago that was, by the shell's SECONDS
 #
-# `prove_in` is the folder that has crates.txt and target/, where it is not the root.
-#
-# rt begins each crate with a word in target/log/NAME.res, puts another one there when it is done, and keeps what the prover says in
-# target/log/NAME.say; a crate that is up to date has none of the latter. This is how the crates are watched while rt is at work.
+# `prove_in` is the folder that has crates.txt, where it is not the root. rt begins each crate with a line of its log, which is how the crates are watched
+# while rt is at work.
 
 prove_in=.
 
@@ -32,105 +30,63 @@ crates_of() { # CRATES
             printf "%s ", name
         }
         { sub(/#.*/, "") }
-        /:/ { name = $1; sub(/:.*/, "", name); sub(/^[^:]*:/, ""); uses[name] = $0 }
+        /:/ { name = $1; sub(/:.*/, "", name); sub(/^[^:]*:/, ""); uses[name] = $0 } # the word staticlib may stand behind the name
         END {
             count = split(ENVIRON["WANTED"], wanted, " ")
             for (i = 1; i <= count; i++) visit(wanted[i])
         }' "$prove_in/crates.txt"
 }
 
-# rt has come to this crate since the mark; it has to be proved; it is done.
-is_begun() { [ "$logs/$1.res" -nt "$mark" ] || is_proving "$1"; }
-is_proving() { [ "$logs/$1.say" -nt "$mark" ]; }
-is_done() {
-    local word=failed
-    if [ "$logs/$1.res" -nt "$mark" ]; then read -r word <"$logs/$1.res" || word=failed; fi
-    [ "$word" != failed ]
-}
-
-# Gives each crate that rt has come to its number, those that are done before those that are not.
-number_crates() {
-    local crate
-    for crate in $crates; do
-        if [ -z "${number[$crate]:-}" ] && is_done "$crate"; then number[$crate]=$((${#number[@]} + 1)); fi
-    done
-    for crate in $crates; do
-        if [ -z "${number[$crate]:-}" ] && is_begun "$crate"; then number[$crate]=$((${#number[@]} + 1)); fi
-    done
-}
+# The crates that rt has begun, by its log, each once and in its order.
+begun() { sed -nE 's/^rt: chose --jobs [0-9]+ for ([a-z0-9_]+)$/\1/p' "$1" 2>/dev/null | awk '!($0 in seen) { seen[$0]; print }'; } # LOG
 
 # Goes on until it is stopped, or until the script has ended.
-watch_crates() {
-    local crate at line
-    local -A number=() announced=()
+watch_crates() { # LOG TOTAL
+    local crate line count told=0
     while kill -0 $$ 2>/dev/null; do
-        number_crates
-        at=
-        for crate in $crates; do
-            if ! is_proving "$crate" || [ -n "${announced[$crate]:-}" ] || is_done "$crate"; then continue; fi
-            at+=${at:+, }$crate
-            if [ ! -t 2 ]; then
-                announced[$crate]=yes
-                echo "$me: ${number[$crate]} of $total crates, $(time_since "$began"): $crate" >&2
-            fi
-        done
-        if [ -t 2 ] && [ -n "$at" ]; then
-            line="$me: ${#number[@]} of $total crates, $(time_since "$began"): $at"
-            printf '\r\033[K%s' "${line:0:$((${COLUMNS:-80} - 1))}" >&2
-        fi
+        count=0
+        while read -r crate; do
+            count=$((count + 1))
+            if [ "$count" -le "$told" ]; then continue; fi
+            told=$count
+            line="$me: $count of $2 crates, $(time_since "$began"): $crate"
+            if [ -t 2 ]; then printf '\r\033[K%s' "${line:0:$((${COLUMNS:-80} - 1))}" >&2; else echo "$line" >&2; fi
+        done < <(begun "$1")
         sleep 0.3 2>/dev/null
     done
 }
 
 # What a log has of errors, or else its end, in lines that a terminal can show.
-show_log() { { grep -m 4 -E ': error|: not proved$' "$1" || tail -n 5 "$1"; } | cut -c 1-300 >&2; } # FILE
+show_log() { { grep -m 4 -E ': error|: not proved|: no proof' "$1" || tail -n 5 "$1"; } | cut -c 1-300 >&2; } # FILE
 
 say_failure() { # LOG STATUS
-    local crate said=no
-    while read -r crate; do
-        said=yes
-        if is_proving "$crate"; then
-            show_log "$logs/$crate.say"
-            echo "$me: the crate $crate is not proved: $logs/$crate.say has all that the prover says." >&2
-            echo "$me: mend crates/$crate, or get it back as it was committed, and run this again" >&2
-        else
-            echo "$me: the crate $crate is not proved: $(sed -n "s/^rt: $crate NOT PROVED: //p" "$1"). Mend that, and run this again" >&2
-        fi
-    done < <(sed -n '/its dependency/d; s/^rt: \([A-Za-z0-9_]*\) NOT PROVED.*/\1/p' "$1")
-    while read -r crate; do
-        said=yes
-        echo "$me: the program $crate is proved, and does not write what crates/$crate/stdout has." >&2
-        echo "$me: compare $logs/$crate.stdout with it, mend one of them, and run this again" >&2
-    done < <(sed -n 's/^rt: \([A-Za-z0-9_]*\) proved, and its run FAILED.*/\1/p' "$1")
-    if [ "$said" = no ]; then
-        show_log "$1"
+    local crate
+    crate=$(begun "$1" | tail -n 1)
+    show_log "$1"
+    if [ -n "$crate" ]; then
+        echo "$me: the crate $crate is not proved, or not built: $1 has all that the prover says." >&2
+        echo "$me: mend crates/$crate, or get it back as it was committed, and run this again" >&2
+    else
         echo "$me: rt ended with status $2 and named no crate: $1 has all that it said. Mend what it speaks of, and run this again" >&2
     fi
 }
 
-prove() { # LOG CRATES COMMAND..
-    local log=$1 logs mark began=$SECONDS crates total status=0 crate proved=no watcher
-    logs=$prove_in/target/log
-    logs=${logs#./}
-    mkdir -p "$logs" "$(dirname "$log")"
-    crates=$(crates_of "$2")
-    total=$(wc -w <<<"$crates")
-    mark=$log.began
-    : >"$mark"
-    watch_crates &
+prove() { # LOG CRATE COMMAND..
+    local log=$1 began=$SECONDS total status=0 count watcher
+    mkdir -p "$(dirname "$log")"
+    total=$(crates_of "$2" | wc -w)
+    : >"$log"
+    watch_crates "$log" "$total" &
     watcher=$!
     "${@:3}" </dev/null >"$log" 2>&1 || status=$?
     kill "$watcher" 2>/dev/null || true
     wait "$watcher" 2>/dev/null || true
-    for crate in $crates; do
-        if is_proving "$crate"; then proved=yes && break; fi
-    done
-    if [ "$proved" = yes ] && [ -t 2 ]; then printf '\r\033[K' >&2; fi
+    count=$(begun "$log" | wc -l)
+    if [ "$count" != 0 ] && [ -t 2 ]; then printf '\r\033[K' >&2; fi
     if [ "$status" != 0 ]; then
         say_failure "$log" "$status"
-    elif [ "$proved" = yes ]; then
-        echo "$me: $total of $total crates proved, $(time_since "$began")" >&2
+    elif [ "$count" != 0 ]; then
+        echo "$me: $count of $total crates were proved anew, the others are as they were; $(time_since "$began")" >&2
     fi
-    rm -f "$mark"
     return "$status"
 }

@@ -50,7 +50,8 @@ module _ (u : List ℕ) (n : ℕ) (is : IsNumber u [] n) (u' : List ℕ) (r : Tm
   unfolding unit_in soundly reset_by_bus
   reset_done z f a = returning u is.lent bus_reset (is_sound_lem is z) _ refl u' r (record { stored = made_stored _ OFF; bytes = f }) a
 
-  pub suspend_done : n ≡ 0 → (v : List ℕ) → v ≡ paste u PORT_AT (port_bytes (with_ren (port_of (state_in u)) OFF)) PORT → u' ≡ paste v REMOTE_AT (remote_number Locs ∷ []) 1 → r ≡ answer_of (numbered DONE)
+  pub suspend_done : n ≡ 0 → (v : List ℕ) → v ≡ paste u PORT_AT (port_bytes (with_ren (port_of (state_in u)) OFF)) PORT
+      → u' ≡ paste v REMOTE_AT (remote_number Locs ∷ []) 1 → r ≡ answer_of (numbered DONE)
       → Returns (on_bytes u (quiet bus_suspend)) u' r
   unfolding unit_in soundly quietly suspend local_now
   suspend_done z v f g a =

@@ -56,7 +56,8 @@ module _ (u u' : List ℕ) where
     unfolding unit_in effected
     ren_on e f = does (SetsRen ren) (λ h. subst (λ (st : State). Holds (with_state (unit_in u) st) u') (sym (at_true _ _ _ (eq-eqb ren 1 e))) ((port_put _).to h f))
 
-    pub ren_off : (ren ≡ 1 → ⊥) → (v : List ℕ) → v ≡ paste u PORT_AT (port_bytes (with_ren (port_of (state_in u)) 0)) PORT → u' ≡ paste v REMOTE_AT (remote_number Locs ∷ []) 1 → Does u (SetsRen ren) u'
+    pub ren_off : (ren ≡ 1 → ⊥) → (v : List ℕ) → v ≡ paste u PORT_AT (port_bytes (with_ren (port_of (state_in u)) 0)) PORT
+        → u' ≡ paste v REMOTE_AT (remote_number Locs ∷ []) 1 → Does u (SetsRen ren) u'
     unfolding unit_in effected local_now
     ren_off e v f g = does (SetsRen ren) (λ h. subst (λ (st : State). Holds (with_state (unit_in u) st) u') (sym (at_false _ _ _ (ne_eqb ren 1 e))) ((remote_put Locs).to ((port_put _).to h f) g))
 

@@ -85,7 +85,8 @@ module _ (u s : List ℕ) (u' : List ℕ) (r : TmcAnswer) where
     returned k a = returning u h.lent call (sound_unit h other) _ (ap (λ (y : Outcome). with_message (unit_in u) s (planned (state_in u) y)) (comes h other)) u' r k a
 
   -- with no data the message store stays
-  plainly : (st : State) → Holds (with_state (unit_in u) st) u' → Holds (record { message = paste (unit_in u).message (out_of (state_in u)).message.held s 0; reply = (unit_in u).reply; state = st }) u'
+  plainly : (st : State) → Holds (with_state (unit_in u) st) u'
+      → Holds (record { message = paste (unit_in u).message (out_of (state_in u)).message.held s 0; reply = (unit_in u).reply; state = st }) u'
   plainly st k = subst (λ (m : List ℕ). Holds (record { message = m; reply = (unit_in u).reply; state = st }) u') (paste-zero (unit_in u).message (out_of (state_in u)).message.held s) k
 
   pub halted : (n : ℕ) → ComesTo u s (Halt n) → u' ≡ paste u OUT_MESSAGE_AT (out_bytes (broken 1 (out_of (state_in u)))) OUT → r ≡ answer_of (numbered n) → Returns (on_bytes u call) u' r

@@ -100,7 +100,8 @@ undisturbed : (w : Watch) (es : List Event) → none w.next ≡ false → Watchi
 undisturbed w [] waits h u = refl
 undisturbed w (e ∷ es) waits h u =
     let k = one w waits e h.0 u.0 in
-    ap (λ (x : Watch). watch x es) k ∙ undisturbed (record { held = pick (e.answer.verdict.number =ᵇ 0) (set_by w.held e.call) w.held; next = w.next }) es waits (subst (λ (x : Watch). Watching x es) k h.1) u.1
+    ap (λ (x : Watch). watch x es) k
+    ∙ undisturbed (record { held = pick (e.answer.verdict.number =ᵇ 0) (set_by w.held e.call) w.held; next = w.next }) es waits (subst (λ (x : Watch). Watching x es) k h.1) u.1
 
 -- a poll, where a packet waits behind a stretch that does not disturb it
 brings : (w : Watch) (packet : List ℕ) (between later : List Event) (room : ℕ) (b : Answer) → w.next ≡ packet → Not (packet ≡ [])

@@ -1,3 +1,2 @@
-#![tactic(auto)]
-
 // What is claimed of the port: definitions and proofs alone.
+#![tactic(auto)]

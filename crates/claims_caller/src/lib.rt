@@ -1,3 +1,2 @@
-#![tactic(auto)]
-
 // What a caller has seen of its calls: definitions and proofs alone.
+#![tactic(auto)]

@@ -69,7 +69,8 @@ row_drops st (InitiateAbortBulkOut tag) =
 row_drops st CheckAbortBulkOutStatus = λ e. absurd (false≢true e)
 row_drops st (InitiateAbortBulkIn tag) = λ e. absurd (false≢true e)
 row_drops st CheckAbortBulkInStatus = λ e. absurd (false≢true e)
-row_drops st InitiateClear = pick_all (Drops st succeeded) (is_clear st.split) (answering (SPLIT_IN_PROGRESS ∷ [])) (reacts Clears (SUCCESS ∷ [])) (λ _ e. absurd (false≢true e)) (λ _ _. empty_dropped ON 0)
+row_drops st InitiateClear =
+    pick_all (Drops st succeeded) (is_clear st.split) (answering (SPLIT_IN_PROGRESS ∷ [])) (reacts Clears (SUCCESS ∷ [])) (λ _ e. absurd (false≢true e)) (λ _ _. empty_dropped ON 0)
 row_drops st CheckClearStatus = λ e. absurd (false≢true e)
 row_drops st GetCapabilities = λ e. absurd (false≢true e)
 row_drops st IndicatorPulse = λ e. absurd (false≢true e)

@@ -140,16 +140,20 @@ owed_in tag = transfer_in OWED tag 0 OFF 0 0 0
 -- ** one part set, the others kept
 
 abbrev pub with_port : State → Port → State
-with_port st p = record { small = record { port = p; bulkout = out_of st; bulkin = in_of st; interrupt = interrupt_of st }; split = st.split; remote = st.remote }
+with_port st p =
+    record { small = record { port = p; bulkout = out_of st; bulkin = in_of st; interrupt = interrupt_of st }; split = st.split; remote = st.remote }
 
 abbrev pub with_out : State → BulkOut → State
-with_out st o = record { small = record { port = port_of st; bulkout = o; bulkin = in_of st; interrupt = interrupt_of st }; split = st.split; remote = st.remote }
+with_out st o =
+    record { small = record { port = port_of st; bulkout = o; bulkin = in_of st; interrupt = interrupt_of st }; split = st.split; remote = st.remote }
 
 abbrev pub with_in : State → BulkIn → State
-with_in st b = record { small = record { port = port_of st; bulkout = out_of st; bulkin = b; interrupt = interrupt_of st }; split = st.split; remote = st.remote }
+with_in st b =
+    record { small = record { port = port_of st; bulkout = out_of st; bulkin = b; interrupt = interrupt_of st }; split = st.split; remote = st.remote }
 
 abbrev pub with_interrupt : State → InterruptIn → State
-with_interrupt st i = record { small = record { port = port_of st; bulkout = out_of st; bulkin = in_of st; interrupt = i }; split = st.split; remote = st.remote }
+with_interrupt st i =
+    record { small = record { port = port_of st; bulkout = out_of st; bulkin = in_of st; interrupt = i }; split = st.split; remote = st.remote }
 
 abbrev pub with_split : State → Split → State
 with_split st s = record { small = st.small; split = s; remote = st.remote }

@@ -1,3 +1,2 @@
-#![tactic(auto)]
-
 // Two units that agree in what counts of them answer alike: a proof alone.
+#![tactic(auto)]

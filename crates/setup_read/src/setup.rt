@@ -1,6 +1,7 @@
 // Reading a setup packet: which row its eight bytes match.
 ghost use Rattle.std.specs.Prelude.{◌≡◌, ℕ, ◌≤◌, ◌<◌, length};
-ghost use Rattle.wire.specs.Setup.{SETUP, fitting, matches, row, of_endpoint, by_endpoint, to_endpoint, to_interface, to_feature, to_status, to_device, read_setup};
+ghost use Rattle.wire.specs.Setup.{SETUP, fitting, matches, row, of_endpoint, by_endpoint};
+ghost use Rattle.wire.specs.Setup.{to_endpoint, to_interface, to_feature, to_status, to_device, read_setup};
 
 use wire::types::{BULK_IN, BULK_OUT, CONTROL, Endpoint, INTERRUPT_IN, Row, Setup};
 use wire_code::numbers::le_u16;

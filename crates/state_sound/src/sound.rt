@@ -2,8 +2,10 @@
 ghost use Rattle.std.specs.Prelude.{◌≡◌, ℕ};
 ghost use Rattle.port.specs.Parts.{is_size};
 ghost use Rattle.port.specs.Interrupt.{asks_service, is_waiting};
-ghost use Rattle.port.specs.Sound.{port_sound, open_sound, held_sound, resting_sound, out_sound, unasked, unsending, idle, asked_sound, sending_sound, phase_sound};
-ghost use Rattle.port.specs.Sound.{in_sound, packet_sound, waiting_sound, silent_sound, interrupt_sound, clear_sound, not_owed, abort_out_sound, split_sound, sound};
+ghost use Rattle.port.specs.Sound.{port_sound, open_sound, held_sound, resting_sound, out_sound, unasked, unsending, idle};
+ghost use Rattle.port.specs.Sound.{asked_sound, sending_sound, phase_sound};
+ghost use Rattle.port.specs.Sound.{in_sound, packet_sound, waiting_sound, silent_sound, interrupt_sound};
+ghost use Rattle.port.specs.Sound.{clear_sound, not_owed, abort_out_sound, split_sound, sound};
 
 use port::types::{
     ASKED, BIT_6, BulkIn, BulkOut, CLOSED, FULL_SPEED, HIGH_SPEED, InTransfer, InterruptIn, Notify,

@@ -70,7 +70,8 @@ taken_fits {σ₂ = σ₂} {σ₃ = σ₃} {σ₄ = σ₄} e s vs u₂ u₃ u₄
 -- the three parts of the answered state are stored
 abbrev stores : Ty → Body → Body
 stores υ rest =
-    seq (assign (place 1 (deref υ ∷ field 2 ∷ [])) (rv_opd (copy (place 4 (field 0 ∷ field 0 ∷ []))))) (seq (assign (place 1 (deref υ ∷ field 3 ∷ [])) (rv_opd (copy (place 4 (field 0 ∷ field 1 ∷ [])))))
+    seq (assign (place 1 (deref υ ∷ field 2 ∷ [])) (rv_opd (copy (place 4 (field 0 ∷ field 0 ∷ [])))))
+    (seq (assign (place 1 (deref υ ∷ field 3 ∷ [])) (rv_opd (copy (place 4 (field 0 ∷ field 1 ∷ [])))))
     (seq (assign (place 1 (deref υ ∷ field 4 ∷ [])) (rv_opd (copy (place 4 (field 0 ∷ field 2 ∷ []))))) rest))
 
 abbrev stored : Vals → Vals → Vals

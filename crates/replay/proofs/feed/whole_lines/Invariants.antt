@@ -9,7 +9,9 @@ use Rattle.replay.proofs.Feeding.{ToPlay}
 use Rattle.replay.proofs.feed.whole_lines.Given as goal
 
 abbrev pub invariant-loop-end : goal.invariant-loop-end
-invariant-loop-end l = (l.end ≤ length l.text) × (length l.out ≡ length l.initial.out) × (l.end ≡ seek (is_byte (code "\n")) l.text l.from) × ToPlay l.initial.after l.after l.text l.initial.out l.out l.from
+invariant-loop-end l =
+    (l.end ≤ length l.text) × (length l.out ≡ length l.initial.out) × (l.end ≡ seek (is_byte (code "\n")) l.text l.from)
+    × ToPlay l.initial.after l.after l.text l.initial.out l.out l.from
 
 abbrev pub decreases-loop-end : goal.decreases-loop-end
 decreases-loop-end l = length l.text - l.end
