@@ -72,7 +72,7 @@ find_kit() {
 
 # What was built is there, and nothing of what it is made from is newer.
 is_current() { is_newer "$library"; }
-is_newer() { [ -f "$1" ] && [ -z "$(find crates crates.txt -regex 'crates/[^/]*/out' -prune -o -newer "$1" -type f -print -quit)" ]; }
+is_newer() { [ -f "$1" ] && [ -z "$(find crates crates.txt -regex 'crates/[^/]*/out' -prune -o -newer "$1" -print -quit)" ]; }
 
 # The archive of tewennos_c under the name that C's users know.
 build_library() {
@@ -81,8 +81,10 @@ build_library() {
 }
 rt=(rt)
 
+# Proved, built, and tested: on the calls of its stdin it writes what its stdout has.
 build_program() {
-    (cd crates/replay && rt run </dev/null) && mkdir -p target/bin &&
+    mkdir -p target/bin target/log
+    (cd crates/replay && rt run <stdin >../../target/log/replay.stdout) && cmp target/log/replay.stdout crates/replay/stdout &&
         cp crates/replay/out/replay target/bin/replay.$$ && mv target/bin/replay.$$ target/bin/replay
 }
 

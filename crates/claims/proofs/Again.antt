@@ -161,7 +161,7 @@ module _ (u : Device) (free : keeps_halt u.state.split ≡ false) where
 
 -- ** while Bulk-OUT is halted and nothing is held, no call but a break changes that
 
-pub record Halted-clean (u : Device) : Type 0 where
+pub record HaltedClean (u : Device) : Type 0 where
   pub free : keeps_halt u.state.split ≡ false
   pub configured : (view u).configured ≡ true
   pub halted : (view u).halted ≡ 1
@@ -170,7 +170,7 @@ pub record Halted-clean (u : Device) : Type 0 where
   pub end : (view u).end ≡ 0
   pub ready : (view u).ready ≡ 0
 
-module _ (u : Device) (stored : Stored u) (sound : is_sound u ≡ true) (k : Halted-clean u) where
+module _ (u : Device) (stored : Stored u) (sound : is_sound u ≡ true) (k : HaltedClean u) where
   -- a packet to a halted Bulk-OUT
   packet_nothing : (s : List ℕ) → heard (out_packet s) (step u (out_packet s)).answer ≡ nothing
   unfolding heard heard_packet ◌and◌ pick
@@ -197,7 +197,7 @@ module _ (u : Device) (stored : Stored u) (sound : is_sound u ≡ true) (k : Hal
       (cases ((step u bus_reset).answer.verdict.number =ᵇ 0))
   unheard (quiet q) i n = effect u stored sound (quiet q) i
 
-  stays_clean : (c : Call) → InOctets c → NoBreak (heard c (step u c).answer) → Halted-clean (step u c).unit
+  stays_clean : (c : Call) → InOctets c → NoBreak (heard c (step u c).answer) → HaltedClean (step u c).unit
   stays_clean c i n =
       let e = unheard c i n in
       record {
@@ -210,8 +210,8 @@ module _ (u : Device) (stored : Stored u) (sound : is_sound u ≡ true) (k : Hal
         ready = ap (λ (w : View). w.ready) e ∙ k.ready;
       }
 
-between_clean : (calls : List Call) (u : Device) → Stored u → is_sound u ≡ true → Halted-clean u → AllInOctets calls → NoBreaks (trace step u calls)
-    → Stored (after step u calls) × (is_sound (after step u calls) ≡ true) × Halted-clean (after step u calls) × (packet_size (after step u calls).state ≡ packet_size u.state)
+between_clean : (calls : List Call) (u : Device) → Stored u → is_sound u ≡ true → HaltedClean u → AllInOctets calls → NoBreaks (trace step u calls)
+    → Stored (after step u calls) × (is_sound (after step u calls) ≡ true) × HaltedClean (after step u calls) × (packet_size (after step u calls).state ≡ packet_size u.state)
 unfolding trace after
 between_clean [] u st so k i n = (st, so, k, refl)
 between_clean (c ∷ calls) u st so k i n =
@@ -232,7 +232,7 @@ feature_octets : Octets CLEAR_FEATURE_OUT
 unfolding ◌and◌
 feature_octets = octets_of CLEAR_FEATURE_OUT refl
 
-module _ (u : Device) (stored : Stored u) (sound : is_sound u ≡ true) (k : Halted-clean u) (room : ℕ) where
+module _ (u : Device) (stored : Stored u) (sound : is_sound u ≡ true) (k : HaltedClean u) (room : ℕ) where
   abbrev Runs : Result → Type 0
   Runs r = r.answer.verdict.number ≡ 0 → (is_configured r.unit.state ≡ true) × ((out_of r.unit.state).halted ≡ 0)
 
@@ -267,11 +267,11 @@ module _ (u : Device) (stored : Stored u) (sound : is_sound u ≡ true) (k : Hal
 -- ** what SUCCESS leaves
 
 module _ (u : Device) (control : ℕ) (sound : is_sound u ≡ true) (s : Succeeds (step u (setup_of CHECK_CLEAR_STATUS control)).answer) where
-  pub success_clean : Halted-clean (step u (setup_of CHECK_CLEAR_STATUS control)).unit
+  pub success_clean : HaltedClean (step u (setup_of CHECK_CLEAR_STATUS control)).unit
   success_clean =
       let c = cleared u control s in
       let out = out_is u control (sound_of _ sound) _ c in
-      subst Halted-clean (sym c.unit) (record {
+      subst HaltedClean (sym c.unit) (record {
         free = refl;
         configured = c.configured;
         halted = ap (λ (o : BulkOut). o.halted) out;

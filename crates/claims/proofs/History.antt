@@ -104,12 +104,12 @@ module _ (P : ℕ) (w : View) (s : List ℕ) (same : w.size ≡ P) (big : 16 ≤
   behind n r long = added (take n r) ∙ ap (λ (k : ℕ). length w.held + k) (parted r n long).0
 
   -- a packet that brings nothing: it is empty, or no part of a command
-  pub record Brings-nothing (x : View) : Type 0 where
+  pub record BringsNothing (x : View) : Type 0 where
     pub same_view : x ≡ w
     pub closed : w.left ≡ 0
     pub what : (s ≡ []) ⊎ ((IsRequest s ⊎ IsTrigger s) × (w.held ≡ []))
 
-  pub further : (x : View) → Taken w s x → Further P w s x ⊎ Brings-nothing x
+  pub further : (x : View) → Taken w s x → Further P w s x ⊎ BringsNothing x
   further x (empty is closed e) = inr (record { same_view = e; closed = closed; what = inl is })
   further x (other is closed none e) = inr (record { same_view = e; closed = closed; what = inr (is, none) })
   further x (all_at_once o closed long fits e) = inl (like x _ e (record {
