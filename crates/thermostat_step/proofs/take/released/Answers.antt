@@ -3,4 +3,4 @@ use Rattle.thermostat_step.proofs.take.released.Goals as goal
 
 pub returns : goal.returns
 unfolding released
-returns c = rw (c.holding.ensures, c.no_message.ensures)
+returns c = cc
