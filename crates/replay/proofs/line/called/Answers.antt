@@ -1,5 +1,6 @@
 -- `replay::line::called` meets its contract.
 use Rattle.replay.specs.Play.{carried_out}
+use borrow.Author.Rules.{rules}
 use Rattle.replay.proofs.line.called.Goals as goal
 
 pub returns-in-Power : goal.returns-in-Power
@@ -36,7 +37,7 @@ returns-in-Status c = rw c.in-Status.is c.status.ensures
 
 pub returns-in-Local : goal.returns-in-Local
 unfolding carried_out
-returns-in-Local c = rw c.in-Local.is (rw c.panel.ensures at c.answered.ensures)
+returns-in-Local c = rw c.in-Local.is (search rules)
 
 pub returns-in-Reset : goal.returns-in-Reset
 unfolding carried_out
