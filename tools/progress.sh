@@ -4,9 +4,9 @@
 #
 #     prove LOG CRATE COMMAND..     runs the command, which proves this crate and all that it uses. What it writes goes to LOG. Standard error says which
 #                                   crate is begun, the how many-th of how many that is, and how long it has taken until then: one line that is written
-#                                   anew on a terminal, and else a line for each crate. A crate that is up to date has no line, so that nothing is said
-#                                   where all of them are. Where the command fails, it is said which crate it failed at, where the log stands and what
-#                                   to do. The status is the command's own.
+#                                   anew on a terminal, and else a line for each crate. A crate below it that is up to date has no line. Where the
+#                                   command fails, it is said which crate it failed at, where the log stands and what to do. The status is the
+#                                   command's own.
 #     time_since SECOND             how long ago that was, by the shell's SECONDS
 #
 # `prove_in` is the folder that has crates.txt, where it is not the root. rt begins each crate with a line of its log, which is how the crates are watched
@@ -86,7 +86,7 @@ prove() { # LOG CRATE COMMAND..
     if [ "$status" != 0 ]; then
         say_failure "$log" "$status"
     elif [ "$count" != 0 ]; then
-        echo "$me: $count of $total crates were proved anew, the others are as they were; $(time_since "$began")" >&2
+        echo "$me: all $total crates are proved, $count of them looked at again; $(time_since "$began")" >&2
     fi
     return "$status"
 }

@@ -140,6 +140,7 @@ fn gone(b: BulkIn, count: usize) -> BulkIn
 }
 
 // What a packet of at most `p` bytes leaves of the side b, once `count` data bytes have gone behind `front` header bytes.
+#[tactic(auto, using(rules::proofs::Choice::picks), unfolding(crate::specs::Poll::after_packet))]
 fn after_packet(p: usize, b: BulkIn, front: usize, count: usize) -> InPacket
     requires { Going b × (count ≤ b.transfer.left) × (front ≤ HEADER) }
     ensures { result ≡ after_packet p b front count }

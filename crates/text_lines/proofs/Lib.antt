@@ -3,3 +3,4 @@ pub mod Meant
 pub mod Whole
 pub mod Reading
 pub mod Examples
+pub mod StatusRead

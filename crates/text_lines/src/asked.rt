@@ -63,6 +63,7 @@ fn asked_text(text: &[u8]) -> Asked
 }
 
 // What a line asks for.
+#[tactic(auto, using(rules::proofs::Choice::picks), unfolding(crate::specs::Asked::asked))]
 pub fn read_line(line: &[u8]) -> Asked
     ensures { result ≡ asked line.now }
 {

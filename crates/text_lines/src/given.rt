@@ -88,6 +88,7 @@ pub enum Status {
 }
 
 // One byte.
+#[tactic(auto, using(crate::proofs::StatusRead::statuses))]
 pub fn given_status(word: &[u8]) -> Status
     ensures { result ≡ status_of word.now }
 {
