@@ -1,10 +1,15 @@
 -- What power-on and the bus's calls leave, by the way that their code takes.
 -- Assumes nothing.
 use Prim.Native.Nat.{ℕ}
-use mathlib.Core.Path.{◌≡◌, refl, sym, subst}
+use mathlib.Core.Path.{◌≡◌, refl, sym, ap, ◌∙◌, subst}
 use mathlib.Core.Bool.{true, false}
 use mathlib.Core.List.{List, [], ◌∷◌}
 use lib.Seq.{paste}
+use Rattle.std.specs.Prelude.{Ok, Err}
+use Rattle.rules.specs.Answers.{number_of}
+use Rattle.rules.specs.declared.refusal.Refusal.{Refusal}
+use Rattle.rules.specs.declared.refusal.Refusal.TheVariants.{Unsound}
+use Rattle.port.specs.declared.types.State.{State}
 use Rattle.rules.specs.Answers.{DONE, WRONG_SIZE}
 use Rattle.rules.proofs.Choice.{at_true, at_false}
 use Rattle.rules.specs.Flags.{OFF}
@@ -18,9 +23,9 @@ use Rattle.port.specs.declared.types.Setting.{Setting}
 use Rattle.port.specs.declared.types.Remote.TheVariants.{Locs}
 use Rattle.c_bytes.specs.Layout.{PORT, PORT_AT, REMOTE_AT, port_bytes, remote_number, state_in, unit_in, unit_bytes}
 use Rattle.c_parts.proofs.Puts.{port_put, remote_put}
-use Rattle.c_promise.specs.Promise.{IsNumber, result_bytes, on_bytes, answer_of, Returns}
+use Rattle.c_promise.specs.Promise.{Decided, result_bytes, on_bytes, answer_of, Returns}
 use Rattle.c_promise.specs.declared.types.TmcAnswer.{TmcAnswer}
-use Rattle.c_promise.proofs.Called.{holds, returning, refusal, is_sound_lem}
+use Rattle.c_promise.proofs.Called.{Either, state_found, holds, returning, refusal}
 use Rattle.c_promise.proofs.Made.{made_stored}
 
 module _ (packet : ℕ) (u' : List ℕ) (r : TmcAnswer) where
@@ -41,20 +46,24 @@ module _ (packet : ℕ) (u' : List ℕ) (r : TmcAnswer) where
   unfolding power_on
   unpowered e f a = by _ (at_false _ _ _ e) f a
 
-module _ (u : List ℕ) (n : ℕ) (is : IsNumber u [] n) (u' : List ℕ) (r : TmcAnswer) where
+module _ (u : List ℕ) (told : Either State) (is : Decided u (Ok (state_in u)) (Err Unsound) told) (u' : List ℕ) (r : TmcAnswer) where
   -- no rule but that of soundness: what is refused is not sound
-  pub bus_refused : (c : Call) → (n ≡ 0 → ⊥) → r ≡ answer_of (numbered n) → Returns (on_bytes u c) u r
-  bus_refused c e a = refusal u c is (λ _ g. absurd (e g)) r a
+  pub bus_refused : (c : Call) (k : Refusal) → told ≡ Err k → r ≡ answer_of (numbered (number_of k)) → Returns (on_bytes u c) u r
+  bus_refused c k e a = refusal u c is k e (λ _ g. let z : ◌≡◌ {A = Either State} (Ok (state_in u)) (Err k) = sym g ∙ e in cc) r a
 
-  pub reset_done : n ≡ 0 → u' ≡ unit_bytes (made (port_of (state_in u)).setting OFF) → r ≡ answer_of (numbered DONE) → Returns (on_bytes u bus_reset) u' r
-  unfolding unit_in soundly reset_by_bus
-  reset_done z f a = returning u is.lent bus_reset (is_sound_lem is z) _ refl u' r (record { stored = made_stored _ OFF; bytes = f }) a
+  module _ (st : State) (e : told ≡ Ok st) where
+    pub reset_done : u' ≡ unit_bytes (made (port_of st).setting OFF) → r ≡ answer_of (numbered DONE) → Returns (on_bytes u bus_reset) u' r
+    unfolding unit_in soundly reset_by_bus
+    reset_done f a =
+        let s = state_found is st e in
+        returning u is.lent bus_reset s.0 _ refl u' r (record { stored = made_stored _ OFF; bytes = f ∙ ap (λ (x : State). unit_bytes (made (port_of x).setting OFF)) (sym s.1) }) a
 
-  pub suspend_done : n ≡ 0 → (v : List ℕ) → v ≡ paste u PORT_AT (port_bytes (with_ren (port_of (state_in u)) OFF)) PORT
-      → u' ≡ paste v REMOTE_AT (remote_number Locs ∷ []) 1 → r ≡ answer_of (numbered DONE)
-      → Returns (on_bytes u (quiet bus_suspend)) u' r
-  unfolding unit_in soundly quietly suspend local_now
-  suspend_done z v f g a =
-      let c = quiet bus_suspend in
-      let e = is_sound_lem is z in
-      returning u is.lent c e _ refl u' r ((remote_put Locs).to ((port_put (with_ren (port_of (state_in u)) OFF)).to (holds u is.lent e) f) g) a
+    pub suspend_done : (v : List ℕ) → v ≡ paste u PORT_AT (port_bytes (with_ren (port_of st) OFF)) PORT
+        → u' ≡ paste v REMOTE_AT (remote_number Locs ∷ []) 1 → r ≡ answer_of (numbered DONE)
+        → Returns (on_bytes u (quiet bus_suspend)) u' r
+    unfolding unit_in soundly quietly suspend local_now
+    suspend_done v f g a =
+        let c = quiet bus_suspend in
+        let s = state_found is st e in
+        let port = f ∙ ap (λ (x : State). paste u PORT_AT (port_bytes (with_ren (port_of x) OFF)) PORT) (sym s.1) in
+        returning u is.lent c s.0 _ refl u' r ((remote_put Locs).to ((port_put (with_ren (port_of (state_in u)) OFF)).to (holds u is.lent s.0) port) g) a

@@ -1,5 +1,4 @@
 -- Laws that belong to no one function.
 pub mod Again
 pub mod Narrow
-pub mod Numbered
 pub mod Parted

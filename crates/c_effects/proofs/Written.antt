@@ -8,13 +8,13 @@ use borrow.Author.Tests.{eq-eqb, ne_eqb}
 use Rattle.rules.proofs.Choice.{at_true, at_false}
 use Rattle.port.specs.Parts.{port_of, out_of, in_of, interrupt_of, with_ren, empty_out, broken}
 use Rattle.port.specs.Interrupt.{status_queued}
-use Rattle.port.specs.Remote.{local_now}
+use Rattle.port.specs.Remote.{to_local, locked_out, with_ren_on, local_now}
 use Rattle.port.specs.Rows.{owing, cleared_in, clearing, clear_feature_out, clear_feature_in, effected}
 use Rattle.port.specs.Device.{with_state}
 use Rattle.port.specs.declared.types.Effect.{Effect}
-use Rattle.port.specs.declared.types.Effect.TheVariants.{Stays, AbortsOut, AbortsIn, Clears, EndsSplit, SetsRen, ClearsHalt, SetsHalt, Queues}
+use Rattle.port.specs.declared.types.Effect.TheVariants.{Stays, AbortsOut, AbortsIn, Clears, EndsSplit, SetsRen}
+use Rattle.port.specs.declared.types.Effect.TheVariants.{GoesToLocal, LocksOut, ClearsHalt, SetsHalt, Queues}
 use Rattle.port.specs.declared.types.Split.TheVariants.{None, AbortOut, AbortIn, Clear}
-use Rattle.port.specs.declared.types.Remote.{Remote}
 use Rattle.port.specs.declared.types.Remote.TheVariants.{Locs}
 use Rattle.port.specs.declared.types.State.{State}
 use Rattle.wire.specs.declared.types.Endpoint.TheVariants.{Out, In, Interrupt}
@@ -61,11 +61,13 @@ module _ (u u' : List ℕ) where
     unfolding unit_in effected local_now
     ren_off e v f g = does (SetsRen ren) (λ h. subst (λ (st : State). Holds (with_state (unit_in u) st) u') (sym (at_false _ _ _ (ne_eqb ren 1 e))) ((remote_put Locs).to ((port_put _).to h f) g))
 
-  -- a row that sets the remote/local state alone
-  pub sets_remote : (effect : Effect) (r : Remote) → effected (state_in u) effect ≡ record { small = (state_in u).small; split = (state_in u).split; remote = r }
-      → u' ≡ paste u REMOTE_AT (remote_number r ∷ []) 1 → Does u effect u'
-  unfolding unit_in
-  sets_remote effect r e f = does effect (λ h. subst (λ (st : State). Holds (with_state (unit_in u) st) u') (sym e) ((remote_put r).to h f))
+  pub goes_to_local : u' ≡ paste u REMOTE_AT (remote_number (to_local (state_in u).remote) ∷ []) 1 → Does u GoesToLocal u'
+  unfolding unit_in effected
+  goes_to_local f = does GoesToLocal (λ h. (remote_put _).to h f)
+
+  pub locks_out : u' ≡ paste u REMOTE_AT (remote_number (with_ren_on locked_out (port_of (state_in u)).ren (state_in u).remote) ∷ []) 1 → Does u LocksOut u'
+  unfolding unit_in effected
+  locks_out f = does LocksOut (λ h. (remote_put _).to h f)
 
   pub clears_out : u' ≡ paste u OUT_MESSAGE_AT (out_bytes (clear_feature_out (state_in u).split (out_of (state_in u)))) OUT → Does u (ClearsHalt Out) u'
   unfolding unit_in effected

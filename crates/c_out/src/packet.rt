@@ -1,45 +1,44 @@
-// A Bulk-OUT packet, on the unit in bytes.
+// A Bulk-OUT packet, on the unit in bytes. Each outcome is carried out by a function that asks for just that outcome of these bytes: no
+// struct holds the unit's and the packet's while the unit is altered.
 ghost use Rattle.std.specs.Prelude.{◌≡◌};
 ghost use Rattle.port.specs.Step.{out_packet};
 ghost use Rattle.c_promise.specs.Promise.{ComesTo, on_bytes, Returns};
 
-use c_bytes::places::UNIT;
-use c_parts::put::{
-    put_in_recent, put_in_transfer, put_out, put_out_message, put_out_recent, put_out_transfer,
-    put_remote,
-};
-use c_parts::read::{in_of, is_sound, out_of, port_of, remote_of, state_of};
-use c_promise::answer::numbered;
+use c_bytes::places::{IN_RECENT_AT, OUT_RECENT_AT, UNIT};
+use c_parts::put::{put, put_byte, put_out};
+use c_parts::read::{in_of, out_of, part_of};
+use c_promise::answer::{done, refused};
+use c_promise::state::sound_state;
 use c_promise::types::TmcAnswer;
 use out_outcome::outcome::outcome;
 use out_step::sides::{absorbed, opened, requested};
-use port::types::Outcome;
+use port::types::{Outcome, Port, Remote};
+use rules::refusal::Refusal;
 use rules::verdict::Verdict;
-use rules::{DONE, TELLS_TRIGGER, UNSOUND};
+use rules::{DONE, TELLS_TRIGGER};
 use state_parts::parts::broken;
 use state_remote::remote::headed;
 use wire::types::Header;
 use wire_code::copies::copy_in;
 use wire_code::header::HEADER;
-use wire_code::numbers::widened;
 
 // What a packet comes to; it is kept with 1 where the bytes are no sound unit's.
 fn outcome_of(u: &[u8; UNIT], s: &[u8]) -> Outcome
     ensures { ComesTo u.now s.now result }
 {
-    if is_sound(u) {
-        return outcome(state_of(u), s);
+    match sound_state(u) {
+        Ok(st) => outcome(st, s),
+        Err(refusal) => Outcome::Keep { refusal },
     }
-    Outcome::Keep { number: UNSOUND }
 }
 
-fn halts(u: &mut [u8; UNIT], s: &[u8], number: u8) -> TmcAnswer
-    requires { ComesTo u.old s.now (Outcome.Halt number) }
+fn halts(u: &mut [u8; UNIT], s: &[u8], refusal: Refusal) -> TmcAnswer
+    requires { ComesTo u.old s.now (Outcome.Halt refusal) }
     ensures { Returns (on_bytes u.old (out_packet s.now)) u.new result }
 {
     let o = out_of(u);
     put_out(u, broken(1, o));
-    numbered(number)
+    refused(refusal)
 }
 
 // Data of the open transfer goes behind what the message holds.
@@ -49,10 +48,10 @@ fn data(u: &mut [u8; UNIT], s: &[u8], count: usize) -> TmcAnswer
 {
     let o = out_of(u);
     let after = absorbed(o, count);
-    copy_in(u, widened(o.message.held), s, 0, count);
-    put_out_message(u, after.message);
-    put_out_transfer(u, after.transfer);
-    numbered(DONE)
+    copy_in(u, usize::from(o.message.held), s, 0, count);
+    put(u, after.message);
+    put(u, after.transfer);
+    done()
 }
 
 // A DEV_DEP_MSG_OUT header with its first data bytes.
@@ -62,14 +61,14 @@ fn message(u: &mut [u8; UNIT], s: &[u8], tag: u8, size: u32, end: u8, count: usi
 {
     let o = out_of(u);
     let after = absorbed(opened(o, tag, size as u16, end), count);
-    let p = port_of(u);
-    let r = remote_of(u);
-    copy_in(u, widened(o.message.held), s, HEADER, count);
-    put_out_message(u, after.message);
-    put_out_transfer(u, after.transfer);
-    put_out_recent(u, tag);
-    put_remote(u, headed(p.ren, r));
-    numbered(DONE)
+    let p: Port = part_of(u);
+    let r: Remote = part_of(u);
+    copy_in(u, usize::from(o.message.held), s, HEADER, count);
+    put(u, after.message);
+    put(u, after.transfer);
+    put_byte(u, OUT_RECENT_AT, tag);
+    put(u, headed(p.ren, r));
+    done()
 }
 
 // A REQUEST_DEV_DEP_MSG_IN header.
@@ -78,19 +77,18 @@ fn request(
     s: &[u8],
     tag: u8,
     size: u32,
-    enabled: u8,
-    term: u8,
+    term: Option<u8>,
     count: usize,
 ) -> TmcAnswer
-    requires { ComesTo u.old s.now (Outcome.Accept (Header.Request tag size enabled term) count) }
+    requires { ComesTo u.old s.now (Outcome.Accept (Header.Request tag size term) count) }
     ensures { Returns (on_bytes u.old (out_packet s.now)) u.new result }
 {
     let b = in_of(u);
-    let after = requested(b, tag, size, enabled, term);
-    put_out_recent(u, tag);
-    put_in_transfer(u, after.transfer);
-    put_in_recent(u, tag);
-    numbered(DONE)
+    let after = requested(b, tag, size, term);
+    put_byte(u, OUT_RECENT_AT, tag);
+    put(u, after.transfer);
+    put_byte(u, IN_RECENT_AT, tag);
+    done()
 }
 
 // A TRIGGER header.
@@ -98,7 +96,7 @@ fn trigger(u: &mut [u8; UNIT], s: &[u8], tag: u8, count: usize) -> TmcAnswer
     requires { ComesTo u.old s.now (Outcome.Accept (Header.Trigger tag) count) }
     ensures { Returns (on_bytes u.old (out_packet s.now)) u.new result }
 {
-    put_out_recent(u, tag);
+    put_byte(u, OUT_RECENT_AT, tag);
     TmcAnswer {
         verdict: Verdict {
             number: DONE,
@@ -114,12 +112,7 @@ fn accepts(u: &mut [u8; UNIT], s: &[u8], header: Header, count: usize) -> TmcAns
 {
     match header {
         Header::Message { tag, size, end } => message(u, s, tag, size, end, count),
-        Header::Request {
-            tag,
-            size,
-            enabled,
-            term,
-        } => request(u, s, tag, size, enabled, term, count),
+        Header::Request { tag, size, term } => request(u, s, tag, size, term, count),
         Header::Trigger { tag } => trigger(u, s, tag, count),
     }
 }
@@ -127,10 +120,10 @@ fn accepts(u: &mut [u8; UNIT], s: &[u8], header: Header, count: usize) -> TmcAns
 pub fn bulk_out(u: &mut [u8; UNIT], s: &[u8]) -> TmcAnswer
     ensures { Returns (on_bytes u.old (out_packet s.now)) u.new result }
 {
-    let x = outcome_of(u, s);
-    match x {
-        Outcome::Keep { number } => numbered(number),
-        Outcome::Halt { number } => halts(u, s, number),
+    match outcome_of(u, s) {
+        Outcome::Nothing => done(),
+        Outcome::Keep { refusal } => refused(refusal),
+        Outcome::Halt { refusal } => halts(u, s, refusal),
         Outcome::Data { count } => data(u, s, count),
         Outcome::Accept { header, count } => accepts(u, s, header, count),
     }

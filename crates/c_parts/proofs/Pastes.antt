@@ -1,14 +1,13 @@
--- Copies into lists: into the first of two, into the second, over all of one, one byte, and pieces one behind the other.
+-- Copies into lists: into the first of two, into the second, over all of one, and pieces one behind the other.
 -- Assumes nothing.
-use Prim.Native.Nat.{ℕ, ◌+◌, ◌≤◌, ◌<◌}
+use Prim.Native.Nat.{ℕ, ◌+◌, ◌≤◌}
 use mathlib.Core.Path.{◌≡◌, sym, ap, ◌∙◌}
 use mathlib.Core.List.{List, [], ◌∷◌, ◌++◌, append_assoc, append-nil}
 use native.Mathlib.Omega.{arith}
 use native.Mathlib.Nat.{add_assoc}
-use native.Mathlib.Numerals.{add-one}
-use lib.ListN.{length, set, length-append, drop_of_length-le}
+use lib.ListN.{length, length-append, drop_of_length-le}
 use lib.Seq.{paste, paste-zero, length-paste, take-append-le, drop-append-le, take-append-add, drop-append-add}
-use lib.Seq.{take_all, drop-drop, take-paste, drop-paste, set_split, append_snoc}
+use lib.Seq.{take_all, drop-drop, take-paste, drop-paste}
 
 pub paste_left : (x y : List ℕ) (at : ℕ) (s : List ℕ) (n : ℕ) → at + n ≤ length x → paste (x ++ y) at s n ≡ paste x at s n ++ y
 paste_left x y at s n h = rw (take-append-le at x y (omega arith), drop-append-le (at + n) x y h) (simp append_assoc)
@@ -18,10 +17,6 @@ paste_right x y at s n = rw (take-append-add, add_assoc (length x) at n, drop-ap
 
 pub paste_all : (x s : List ℕ) (n : ℕ) → length x ≡ n → length s ≡ n → paste x 0 s n ≡ s
 paste_all x s n e d = rw (take_all n s (omega arith), drop_of_length-le x {i = 0 + n} (omega arith), append-nil)
-
--- a byte stored
-pub paste_one : (u : List ℕ) (at a : ℕ) → at < length u → set u at a ≡ paste u at (a ∷ []) 1
-paste_one u at a h = set_split u at a h ∙ sym (rw (add-one, append_snoc))
 
 -- one copy behind another
 behind : (d : List ℕ) (at : ℕ) (s t : List ℕ) (m : ℕ) → at + length s ≤ length d → paste (paste d at s (length s)) (at + length s) t m ≡ paste d at (s ++ t) (length s + m)

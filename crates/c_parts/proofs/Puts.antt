@@ -6,12 +6,12 @@ use mathlib.Core.Path.{◌≡◌, refl, sym, ap, ◌∙◌}
 use mathlib.Core.Bool.{true}
 use mathlib.Core.List.{List, [], ◌∷◌, ◌++◌}
 use native.Mathlib.Omega.{arith}
-use lib.ListN.{length, replicate, length-replicate, replicate-append-replicate}
+use lib.ListN.{length}
 use lib.Seq.{paste, length-paste}
 use Rattle.port.specs.Parts.{STORE, out_of, in_of, interrupt_of, with_port, with_out, with_in, with_interrupt}
 use Rattle.port.specs.Parts.{with_split, with_remote, holding, carrying, with_in_halted, with_interrupt_halted}
 use Rattle.port.specs.Out.{tagged}
-use Rattle.port.specs.Device.{Device, with_state, zeroed}
+use Rattle.port.specs.Device.{Device, with_state}
 use Rattle.port.specs.Laws.{Stored}
 use Rattle.port.specs.declared.types.Port.{Port}
 use Rattle.port.specs.declared.types.OutMessage.{OutMessage}
@@ -24,7 +24,7 @@ use Rattle.port.specs.declared.types.InterruptIn.{InterruptIn}
 use Rattle.port.specs.declared.types.Split.{Split}
 use Rattle.port.specs.declared.types.Remote.{Remote}
 use Rattle.port.specs.declared.types.State.{State}
-use Rattle.c_parts.proofs.Pastes.{paste_left, paste_right, paste_all}
+use Rattle.c_parts.proofs.Pastes.{paste_left, paste_right}
 use Rattle.c_bytes.proofs.Again.{bytes_of_its_unit}
 use Rattle.c_bytes.proofs.Parted.{stores_long, unit_stored}
 use Rattle.c_bytes.specs.Layout.{PORT, OUT_MESSAGE, OUT_TRANSFER, IN_REPLY, IN_TRANSFER, INTERRUPT, SPLIT, REPLY_AT, PORT_AT, OUT_MESSAGE_AT}
@@ -158,20 +158,5 @@ reply_put {d} s n room enough = record {
         stored = record { message = e.stored.message; reply = length-paste d.reply 0 s n (omega arith) enough ∙ long };
         bytes = front e REPLY_AT s n (omega arith) f ∙ ap (λ (a : List ℕ). a ++ state_bytes d.state)
             (ap (λ (j : ℕ). paste (d.message ++ d.reply) j s n) k ∙ paste_right d.message d.reply 0 s n);
-      };
-}
-
-pub wiped : {d : Device} → Put d 0 (replicate PORT_AT 0) PORT_AT (record { message = zeroed; reply = zeroed; state = d.state })
-unfolding unit_bytes zeroed
-wiped {d} = record {
-  to = λ e f.
-      let long = length-replicate {A = ℕ} STORE 0 in
-      record {
-        stored = record { message = long; reply = long };
-        bytes =
-            front e 0 (replicate PORT_AT 0) PORT_AT (omega arith) f
-            ∙ ap (λ (a : List ℕ). a ++ state_bytes d.state)
-            (paste_all (d.message ++ d.reply) (replicate PORT_AT 0) PORT_AT (stores_long d e.stored) (length-replicate {A = ℕ} PORT_AT 0)
-            ∙ sym (replicate-append-replicate {A = ℕ} STORE STORE 0));
       };
 }

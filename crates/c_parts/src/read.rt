@@ -1,127 +1,84 @@
 // A part of a unit from its bytes.
-ghost use Rattle.std.specs.Prelude.{◌≡◌, ℕ, ◌+◌, ◌≤◌, length};
+ghost use Rattle.std.specs.Prelude.{◌≡◌, ℕ, ◌+◌, ◌≤◌};
 ghost use Rattle.rules.specs.Choice.{◌and◌};
-ghost use Rattle.port.specs.Parts.{port_of, out_of, in_of, interrupt_of};
+ghost use Rattle.port.specs.Parts.{out_of, in_of};
 ghost use Rattle.port.specs.Sound.{sound};
 ghost use Rattle.c_bytes.specs.Layout.{UNIT, part, state_in, is_unit, Bytes};
 
-use c_bytes::{bytes, places};
-use port::types::{BulkIn, BulkOut, InterruptIn, Port, Remote, Small, Split, State};
+use c_bytes::bytes::is_split;
+use c_bytes::part::Part;
+use c_bytes::places::{
+    IN_HALTED_AT, IN_RECENT_AT, OUT_HALTED_AT, OUT_RECENT_AT, REMOTE_AT, SPLIT_AT, UNIT,
+};
+use port::types::{BulkIn, BulkOut, Small, State};
 use state_sound::sound::sound;
 
-// n of its bytes, from `at` on.
-fn part(u: &[u8], at: usize, n: usize) -> &[u8]
-    requires { at + n ≤ length u.now }
-    ensures { (result.now ≡ part at n u.now) × (length result.now ≡ n) }
+// N of its bytes, from `at` on.
+pub fn part<const N: usize>(u: &[u8; UNIT], at: usize) -> &[u8; N]
+    requires { at + N ≤ UNIT }
+    ensures { result.now ≡ part at N u.now }
 {
-    let e = at + n;
-    &u[at..e]
+    u[at..at + N].as_array().unwrap()
 }
 
-pub fn port_of(u: &[u8]) -> Port
-    requires { UNIT ≤ length u.now }
-    ensures { result ≡ port_of (state_in u.now) }
+pub fn part_of<const N: usize, P: Part<N>>(u: &[u8; UNIT]) -> P
+    ensures { result ≡ P.of (state_in u.now) }
 {
-    bytes::port_in(part(u, places::PORT_AT, bytes::PORT))
+    P::from_bytes(part(u, P::AT))
 }
 
-pub fn out_of(u: &[u8]) -> BulkOut
-    requires { UNIT ≤ length u.now }
+#[tactic(auto, unfolding(c_bytes::specs::Layout::state_in))]
+pub fn out_of(u: &[u8; UNIT]) -> BulkOut
     ensures { result ≡ out_of (state_in u.now) }
 {
-    let message = bytes::out_message_in(part(u, places::OUT_MESSAGE_AT, bytes::OUT_MESSAGE));
-    let transfer = bytes::out_transfer_in(part(u, places::OUT_TRANSFER_AT, bytes::OUT_TRANSFER));
     BulkOut {
-        message,
-        transfer,
-        halted: u[places::OUT_HALTED_AT],
-        recent: u[places::OUT_RECENT_AT],
+        message: part_of(u),
+        transfer: part_of(u),
+        halted: u[OUT_HALTED_AT],
+        recent: u[OUT_RECENT_AT],
     }
 }
 
-pub fn in_of(u: &[u8]) -> BulkIn
-    requires { UNIT ≤ length u.now }
+#[tactic(auto, unfolding(c_bytes::specs::Layout::state_in))]
+pub fn in_of(u: &[u8; UNIT]) -> BulkIn
     ensures { result ≡ in_of (state_in u.now) }
 {
-    let reply = bytes::in_reply_in(part(u, places::IN_REPLY_AT, bytes::IN_REPLY));
-    let transfer = bytes::in_transfer_in(part(u, places::IN_TRANSFER_AT, bytes::IN_TRANSFER));
     BulkIn {
-        reply,
-        transfer,
-        halted: u[places::IN_HALTED_AT],
-        recent: u[places::IN_RECENT_AT],
+        reply: part_of(u),
+        transfer: part_of(u),
+        halted: u[IN_HALTED_AT],
+        recent: u[IN_RECENT_AT],
     }
 }
 
-pub fn interrupt_of(u: &[u8]) -> InterruptIn
-    requires { UNIT ≤ length u.now }
-    ensures { result ≡ interrupt_of (state_in u.now) }
-{
-    bytes::interrupt_in(part(u, places::INTERRUPT_AT, bytes::INTERRUPT))
-}
-
-pub fn split_of(u: &[u8]) -> Split
-    requires { UNIT ≤ length u.now }
-    ensures { result ≡ (state_in u.now).split }
-{
-    bytes::split_in(part(u, places::SPLIT_AT, bytes::SPLIT))
-}
-
-pub fn remote_of(u: &[u8]) -> Remote
-    requires { UNIT ≤ length u.now }
-    ensures { result ≡ (state_in u.now).remote }
-{
-    let place = u[places::REMOTE_AT];
-    match place {
-        0 => Remote::Locs,
-        1 => Remote::Rems,
-        2 => Remote::Lwls,
-        _ => Remote::Rwls,
-    }
-}
-
-pub fn state_of(u: &[u8]) -> State
-    requires { UNIT ≤ length u.now }
+pub fn state_of(u: &[u8; UNIT]) -> State
     ensures { result ≡ state_in u.now }
 {
-    let port = port_of(u);
-    let bulkout = out_of(u);
-    let bulkin = in_of(u);
-    let interrupt = interrupt_of(u);
-    let split = split_of(u);
-    let remote = remote_of(u);
     State {
         small: Small {
-            port,
-            bulkout,
-            bulkin,
-            interrupt,
+            port: part_of(u),
+            bulkout: out_of(u),
+            bulkin: in_of(u),
+            interrupt: part_of(u),
         },
-        split,
-        remote,
+        split: part_of(u),
+        remote: part_of(u),
     }
 }
 
 // ** what is a unit
 
 // Whether these are the bytes of a unit, sound or not.
-pub fn is_unit(u: &[u8]) -> bool
-    requires { UNIT ≤ length u.now }
+#[tactic(auto, using(rules::proofs::Choice::picks), unfolding(c_bytes::specs::Layout::is_unit))]
+pub fn is_unit(u: &[u8; UNIT]) -> bool
     ensures { result ≡ is_unit u.now }
 {
-    if 3 < u[places::REMOTE_AT] {
-        return false;
-    }
-    bytes::is_split(part(u, places::SPLIT_AT, bytes::SPLIT))
+    u[REMOTE_AT] <= 3 && is_split(part(u, SPLIT_AT))
 }
 
 // Whether these are the bytes of a sound unit; that they are bytes, their type says.
-pub fn is_sound(u: &[u8]) -> bool
-    requires { UNIT ≤ length u.now }
+pub fn is_sound(u: &[u8; UNIT]) -> bool
     ensures { (result ≡ (is_unit u.now and sound (state_in u.now))) × Bytes u.now }
 {
-    if is_unit(u) {
-        return sound(state_of(u));
-    }
-    false
+    is_unit(u) && sound(state_of(u))
 }

@@ -5,9 +5,12 @@ use mathlib.Core.Path.{◌≡◌, refl, sym, ap, ◌∙◌, subst}
 use mathlib.Core.Bool.{Bool, true, false}
 use mathlib.Core.List.{List}
 use mathlib.Core.Logic.{⊎_elim}
-use native.Mathlib.Omega.{arith}
 use lib.ListN.{length}
-use Rattle.rules.specs.Answers.{UNSOUND}
+use Rattle.std.specs.Prelude.{Result as OkOr, Ok, Err}
+use Rattle.rules.specs.Answers.{UNSOUND, number_of}
+use Rattle.rules.specs.declared.refusal.Refusal.{Refusal}
+use Rattle.rules.specs.declared.refusal.Refusal.TheVariants.{Unsound}
+use Rattle.port.specs.declared.types.State.{State}
 use Rattle.rules.proofs.Choice.{pick_true, pick_false, at_true, at_false, both_left, both_right, not_both}
 use Rattle.wire.specs.Bytes.{into}
 use Rattle.port.specs.Sound.{sound}
@@ -22,6 +25,13 @@ use Rattle.c_bytes.proofs.Again.{bytes_of_its_unit}
 use Rattle.c_parts.proofs.Puts.{Holds, unit_holds}
 use Rattle.c_promise.specs.Promise.{is_sound_unit, Lent, Decided, BytesResult, result_bytes, kept_of, on_bytes, Returns, Fills, answer_of}
 use Rattle.c_promise.specs.declared.types.TmcAnswer.{TmcAnswer}
+
+abbrev pub Either : Type 0 → Type 0
+Either A = OkOr A Refusal
+
+-- what a gate can say
+abbrev pub Gate : Type 0
+Gate = Either (Unit {0})
 
 -- bytes that are a unit's, and those that are not
 module _ (u : List ℕ) (c : Call) where
@@ -105,22 +115,52 @@ module _ {A : Type 0} {u : List ℕ} {x y r : A} where
     pub comes : x ≡ r
     comes = sym (h.is ∙ at_true _ _ _ sound_unit)
 
--- no rule applies: the unit is sound
-module _ {u : List ℕ} {x n : ℕ} (h : Decided u x UNSOUND n) (z : n ≡ 0) where
-  pub is_sound_lem : is_sound_unit u ≡ true
-  is_sound_lem = sound_unit h (λ e. omega arith)
+-- the state of a sound unit
+pub state_found : {u : List ℕ} {told : Either State} → Decided u (Ok (state_in u)) (Err Unsound) told → (st : State) → told ≡ Ok st → (is_sound_unit u ≡ true) × (state_in u ≡ st)
+state_found {u} h st e =
+    let both : ◌≡◌ {A = Either State} (Ok (state_in u)) (Ok st) = comes h (λ z. is_err (sym z ∙ e)) ∙ e in
+    (sound_unit h (λ z. is_err (sym z ∙ e)), cc)
+  where
+    is_err : ◌≡◌ {A = Either State} (Err Unsound) (Ok st) → ⊥
+    is_err z = cc
 
-  pub by_rules : n ≡ x
-  by_rules = sym (comes h (λ e. omega arith))
+-- and what is decided over it
+module _ {A : Type 0} {u : List ℕ} {x y : A} {told : Either State} (h : Decided u (Ok (state_in u)) (Err Unsound) told) where
+  pub by_state : (f : State → A) → x ≡ f (state_in u) → (st : State) → told ≡ Ok st → (r : A) → r ≡ f st → Decided u x y r
+  by_state f is st e r k = let s = state_found h st e in record { is = pick_true _ _ _ _ s.0 (k ∙ ap f (sym s.1) ∙ sym is); lent = h.lent }
+
+  -- others are refused, whatever is made of that
+  pub by_none : (f : Refusal → A) → y ≡ f Unsound → (k : Refusal) → told ≡ Err k → (r : A) → r ≡ f k → Decided u x y r
+  by_none f is k e r g = record { is = pick_false _ _ _ _ unsound (g ∙ ap f same ∙ sym is); lent = h.lent }
+    where
+      unsound : is_sound_unit u ≡ false
+      unsound = ⊎_elim (λ s. absurd (let z : ◌≡◌ {A = Either State} (Ok (state_in u)) (Err k) = sym (at_true _ _ _ s) ∙ sym h.is ∙ e in cc)) (λ s. s) (cases (is_sound_unit u))
+
+      same : k ≡ Unsound
+      same = let z : ◌≡◌ {A = Either State} (Err Unsound) (Err k) = sym (at_false _ _ _ unsound) ∙ sym h.is ∙ e in cc
+
+-- no rule applies: the unit is sound
+module _ {u : List ℕ} {x told : Either (Unit {0})} (h : Decided u x (Err Unsound) told) (z : told ≡ Ok tt) where
+  pub is_sound_lem : is_sound_unit u ≡ true
+  is_sound_lem = sound_unit h (λ e. let k : ◌≡◌ {A = Either (Unit {0})} (Err Unsound) (Ok tt) = sym e ∙ z in cc)
+
+  pub by_rules : told ≡ x
+  by_rules = sym (comes h (λ e. let k : ◌≡◌ {A = Either (Unit {0})} (Err Unsound) (Ok tt) = sym e ∙ z in cc))
 
 -- a call whose rules are asked first: one applies, and it is refused; or the bytes are no sound unit's
-module _ (u : List ℕ) (c : Call) {x n : ℕ} (h : Decided u x UNSOUND n) (refuses : is_sound_unit u ≡ true → n ≡ x → soundly (unit_in u) c ≡ refused (unit_in u) n) (r : TmcAnswer)
-    (a : r ≡ answer_of (numbered n)) where
-  stayed : on_bytes u c ≡ kept_of u n
-  stayed = stays u h.lent c n (λ e. refuses e (h.is ∙ at_true _ _ _ e)) (λ e. h.is ∙ at_false _ _ _ e)
+module _ (u : List ℕ) (c : Call) {A : Type 0} {x told : Either A} (h : Decided u x (Err Unsound) told) (k : Refusal) (shut : told ≡ Err k)
+    (refuses : is_sound_unit u ≡ true → told ≡ x → soundly (unit_in u) c ≡ refused (unit_in u) (number_of k)) (r : TmcAnswer) (a : r ≡ answer_of (numbered (number_of k))) where
+  first : told ≡ Err Unsound → number_of k ≡ UNSOUND
+  first e =
+      let z : ◌≡◌ {A = Either A} (Err k) (Err Unsound) = sym shut ∙ e in
+      let same : k ≡ Unsound = cc in
+      ap number_of same
+
+  stayed : on_bytes u c ≡ kept_of u (number_of k)
+  stayed = stays u h.lent c (number_of k) (λ e. refuses e (h.is ∙ at_true _ _ _ e)) (λ e. first (h.is ∙ at_false _ _ _ e))
 
   pub refusal : Returns (on_bytes u c) u r
-  refusal = kept u h.lent c n r a stayed
+  refusal = kept u h.lent c (number_of k) r a stayed
 
   pub refusal_into : (b : List ℕ) → Fills (on_bytes u c) b b u r
-  refusal_into = kept_into u h.lent c n r a stayed
+  refusal_into = kept_into u h.lent c (number_of k) r a stayed

@@ -1,21 +1,28 @@
 // Answers with no bytes.
-ghost use Rattle.std.specs.Prelude.{◌≡◌, ℕ};
+ghost use Rattle.std.specs.Prelude.{◌≡◌};
+ghost use Rattle.rules.specs.Answers.{DONE, number_of};
 ghost use Rattle.port.specs.Answer.{numbered};
 ghost use Rattle.c_promise.specs.Promise.{answer_of};
 
 use crate::types::TmcAnswer;
-use rules::TELLS_NOTHING;
-use rules::verdict::Verdict;
+use rules::DONE;
+use rules::refusal::Refusal;
+use rules::verdict::{Verdict, only};
 
-// A number that tells nothing.
-pub fn numbered(n: u8) -> TmcAnswer
-    ensures { result ≡ answer_of (numbered n) }
+pub fn refused(refusal: Refusal) -> TmcAnswer
+    ensures { result ≡ answer_of (numbered (number_of refusal)) }
 {
     TmcAnswer {
-        verdict: Verdict {
-            number: n,
-            tells: TELLS_NOTHING,
-        },
+        verdict: Verdict::from(refusal),
+        len: 0,
+    }
+}
+
+pub fn done() -> TmcAnswer
+    ensures { result ≡ answer_of (numbered DONE) }
+{
+    TmcAnswer {
+        verdict: only(DONE),
         len: 0,
     }
 }

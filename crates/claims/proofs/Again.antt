@@ -8,8 +8,9 @@ use mathlib.Core.Logic.{inl, inr, ⊎_elim}
 use native.Mathlib.Omega.{arith}
 use borrow.Author.Tests.{eq-eqb}
 use lib.ListN.{length, take}
+use Rattle.std.specs.Prelude.{Option, Some, None}
+use Rattle.rules.specs.Answers.{refusing}
 use Rattle.rules.specs.Choice.{◌=ᵇ◌, ◌and◌, no, pick}
-use Rattle.rules.specs.Answers.{only}
 use Rattle.rules.proofs.Choice.{pick_all, decide_all, at_true, at_false}
 use Rattle.wire.specs.Setup.{read_setup}
 use Rattle.wire.specs.declared.types.Endpoint.TheVariants.{Out, In, Interrupt}
@@ -19,7 +20,7 @@ use Rattle.wire.specs.declared.types.Row.TheVariants.{InitiateAbortBulkOut, Chec
 use Rattle.wire.specs.declared.types.Row.TheVariants.{InitiateClear, CheckClearStatus, GetCapabilities, IndicatorPulse, ReadStatusByte}
 use Rattle.wire.specs.declared.types.Row.TheVariants.{RenControl, GoToLocal, LocalLockout, ClearFeature, SetFeature, GetStatus}
 use Rattle.wire.specs.declared.types.Setup.{Setup}
-use Rattle.wire.specs.declared.types.Setup.TheVariants.{Configure, Asks, NoRow}
+use Rattle.wire.specs.declared.types.Setup.TheVariants.{Configure, Asks}
 use Rattle.port.specs.Parts.{on, packet_size, is_open_out, is_open_in, is_owed, is_clear, keeps_halt, out_of, in_of, interrupt_of, is_configured, broken, fresh}
 use Rattle.port.specs.Remote.{local_now}
 use Rattle.port.specs.Answer.{Answer, Said, refuse}
@@ -40,10 +41,10 @@ use Rattle.port.specs.declared.types.Plan.{Plan}
 use Rattle.port.specs.declared.types.Split.{Split}
 use Rattle.port.specs.declared.types.Split.TheVariants.{None, AbortOut, AbortIn, Clear}
 use Rattle.port.specs.declared.types.State.{State}
-use Rattle.port.specs.declared.types.SetupOutcome.{SetupOutcome}
-use Rattle.port.specs.declared.types.SetupOutcome.TheVariants.{Denies}
+use Rattle.port.specs.Answer.{SetupOutcome}
+use Rattle.std.specs.Prelude.{Err}
 use Rattle.port.specs.declared.types.Outcome.{Outcome}
-use Rattle.port.specs.declared.types.Outcome.TheVariants.{Keep, Halt, Data, Accept}
+use Rattle.port.specs.declared.types.Outcome.TheVariants.{Nothing, Keep, Halt, Data, Accept}
 use Rattle.port.proofs.KeepsOut.{cases}
 use Rattle.port.proofs.Opened.{computed}
 use Rattle.port.proofs.Soundness.{sound_of}
@@ -119,31 +120,32 @@ module _ (u : Device) (free : keeps_halt u.state.split ≡ false) where
     abbrev Stays : SetupOutcome → Type 0
     Stays x = NoBreak (heard (setup_packet p) (answered u x).answer) → Free (answered u x).unit.state
 
-    asked_free : (x : Setup) → Told p.packet x → Stays (asked st x)
+    asked_free : (x : Option Setup) → Told p.packet x → Stays (asked st x)
     unfolding heard answered asked made fresh
-    asked_free (Configure value) k = λ _. refl
-    asked_free (Asks row) k = pick_all Stays (is_configured st) _ _
+    asked_free (Some (Configure value)) k = λ _. refl
+    asked_free (Some (Asks row)) k = pick_all Stays (is_configured st) _ _
         (λ _ n. row_free row (subst NoBreak (heard_done p.packet _ (row_kept u row).0 ∙ k _) n)) (λ _ _. free)
-    asked_free NoRow k = λ _. free
+    asked_free None k = λ _. free
 
     setup_free : NoBreak (heard (setup_packet p) (setup u p.packet p.room).answer) → Free (setup u p.packet p.room).unit.state
     unfolding setup setup_outcome answered
-    setup_free = decide_all Stays Denies (setup_rules (length p.packet) p.room) _ ((λ _. free), tt) (λ _. asked_free (read_setup p.packet) (told p.packet))
+    setup_free = decide_all Stays Err (setup_rules (length p.packet) p.room) _ ((λ _. free), tt) (λ _. asked_free (read_setup p.packet) (told p.packet))
 
   planned_free : (x : Outcome) → Free (planned st x).state
   unfolding planned acceptance
+  planned_free Nothing = free
   planned_free (Keep n) = free
   planned_free (Halt n) = free
   planned_free (Data count) = free
   planned_free (Accept (Message tag size end) count) = free
-  planned_free (Accept (Request tag size enabled term) count) = free
+  planned_free (Accept (Request tag size term) count) = free
   planned_free (Accept (Trigger tag) count) = free
 
   quiet_free : (q : Quiet) → Free (quietly u q).unit.state
   unfolding quietly bulk_in poll interrupt_in poll_interrupt offer offer_plan set_status_byte status_set panel returned suspend local_now
   quiet_free (in_poll room) = decide_all (λ (r : Said). Free r.state) (refuse st) (in_rules st room) _ (free, (free, (free, (free, tt)))) (λ _. free)
   quiet_free (interrupt_poll room) = decide_all (λ (r : Said). Free r.state) (refuse st) (interrupt_rules st room) _ (free, (free, (free, (free, tt)))) (λ _. free)
-  quiet_free (offer_reply bytes) = decide_all (λ (r : Plan). Free r.state) (λ n. plain st (only n)) (offer_rules st (length bytes)) _ (free, (free, (free, tt))) (λ _. free)
+  quiet_free (offer_reply bytes) = decide_all (λ (r : Plan). Free r.state) (λ k. plain st (refusing k)) (offer_rules st (length bytes)) _ (free, (free, (free, tt))) (λ _. free)
   quiet_free (set_status status) = decide_all (λ (r : Said). Free r.state) (refuse st) (thermostat_rules st) _ (free, tt) (λ _. free)
   quiet_free front_panel = decide_all (λ (r : Said). Free r.state) (refuse st) (thermostat_rules st) _ (free, tt) (λ _. free)
   quiet_free bus_suspend = free
@@ -220,7 +222,7 @@ between_clean (c ∷ calls) u st so k i n =
 
 -- ** CLEAR_FEATURE on 0x01 then ends the halt
 
-read_feature : read_setup CLEAR_FEATURE_OUT ≡ Asks (ClearFeature Out)
+read_feature : read_setup CLEAR_FEATURE_OUT ≡ Some (Asks (ClearFeature Out))
 unfolding computed
 read_feature = refl
 
@@ -240,8 +242,8 @@ module _ (u : Device) (stored : Stored u) (sound : is_sound u ≡ true) (k : Hal
   unfolding soundly setup setup_outcome answered asked answer_row effected clear_feature_out broken
   feature_runs =
       subst Runs (sym (step_sound u (setup_of CLEAR_FEATURE_OUT room) sound))
-      (decide_all (λ (x : SetupOutcome). Runs (answered u x)) Denies (setup_rules (length CLEAR_FEATURE_OUT) room) _ ((λ e. absurd (omega arith)), tt)
-      (λ _. subst (λ (x : Setup). Runs (answered u (asked u.state x))) (sym read_feature)
+      (decide_all (λ (x : SetupOutcome). Runs (answered u x)) Err (setup_rules (length CLEAR_FEATURE_OUT) room) _ ((λ e. absurd (omega arith)), tt)
+      (λ _. subst (λ (x : Option Setup). Runs (answered u (asked u.state x))) (sym read_feature)
       (pick_all (λ (x : SetupOutcome). Runs (answered u x)) (is_configured u.state) _ _ (λ c _. (c, at_false _ _ _ k.free)) (λ _ e. absurd (omega arith)))))
 
   abbrev x : View

@@ -11,16 +11,17 @@ use native.Mathlib.Omega.{arith}
 use lib.ListN.{length, take, drop}
 use lib.Seq.{drop-nil}
 use borrow.Author.Tests.{eqb-true}
+use Rattle.std.specs.Prelude.{Option, Some, None}
+use Rattle.rules.specs.Answers.{refusing}
 use Rattle.rules.specs.Choice.{◌=ᵇ◌}
-use Rattle.rules.specs.Answers.{only}
 use Rattle.rules.specs.When.{Not}
 use Rattle.rules.proofs.Choice.{Each, pick_all, decide_all, not_no}
 use Rattle.wire.specs.Setup.{read_setup}
-use Rattle.wire.specs.When.{at, Requests, BadRequest, Column, rows}
+use Rattle.wire.specs.When.{at, Requests, BadRequest, Column, rows, RowOf}
 use Rattle.wire.specs.declared.types.Header.TheVariants.{Message, Request, Trigger}
 use Rattle.wire.specs.declared.types.Row.{Row}
 use Rattle.wire.specs.declared.types.Setup.{Setup}
-use Rattle.wire.specs.declared.types.Setup.TheVariants.{Configure, Asks, NoRow}
+use Rattle.wire.specs.declared.types.Setup.TheVariants.{Configure, Asks}
 use Rattle.wire.proofs.When.{setup_law}
 use Rattle.port.specs.Parts.{on, is_owed, is_clear, port_of, out_of, in_of, interrupt_of, packet_size, with_in, ASKED, shut as shut-off}
 use Rattle.port.specs.Remote.{local_now}
@@ -44,18 +45,18 @@ use Rattle.port.specs.declared.types.OutTransfer.{OutTransfer}
 use Rattle.port.specs.declared.types.BulkIn.{BulkIn}
 use Rattle.port.specs.declared.types.Split.{Split}
 use Rattle.port.specs.declared.types.Split.TheVariants.{None, AbortOut, AbortIn, Clear}
-use Rattle.port.specs.declared.types.SetupOutcome.{SetupOutcome}
-use Rattle.port.specs.declared.types.SetupOutcome.TheVariants.{Denies}
+use Rattle.port.specs.Answer.{SetupOutcome}
+use Rattle.std.specs.Prelude.{Err}
 use Rattle.port.specs.declared.types.State.{State}
 use Rattle.port.specs.declared.types.Plan.{Plan}
 use Rattle.port.specs.declared.types.Outcome.{Outcome}
-use Rattle.port.specs.declared.types.Outcome.TheVariants.{Keep, Halt, Data, Accept}
+use Rattle.port.specs.declared.types.Outcome.TheVariants.{Nothing, Keep, Halt, Data, Accept}
 use Rattle.port.proofs.Soundness.{Sound, sound_of}
 use Rattle.port.proofs.KeepsIn.{clears}
 use Rattle.port.proofs.Calls.{row_done, step_sound, keeps_sound, keeps_stored}
 use Rattle.port.proofs.When.{rule_for_every}
 use Rattle.port.proofs.Sending.{Line}
-use Rattle.port.proofs.Readers.{Found, find, ◌▹◌, Came, came}
+use Rattle.port.proofs.Readers.{find, ◌▹◌, Came, came}
 use Rattle.port.proofs.Replies.{seen, Agreed, whole, long, steps, reads}
 use Rattle.claims.specs.Command.{request_bytes, IsRequest}
 use Rattle.claims.specs.Replies.{polled_in, Drops, NoDrops, Harmless, MayCome, AllCome, poll_due, ReplyDue, Arriving, Ready, ReplyArrives, WholeReply}
@@ -98,7 +99,8 @@ module _ (u : Device) where
       (λ _. pick_all (λ (x : Packet). Kept (with_in st x.side)) (is_owed (in_of st)) _ _ (λ _. refl)
       (λ _. side_kept (send (packet_size st) (in_of st) (unsent_of u)).side (packet_kept (packet_size st) (unsent_of u))))
   quiet_kept (interrupt_poll room) = decide_all (λ (x : Said). Kept x.state) (refuse st) (interrupt_rules st room) _ (refl, (refl, (refl, (refl, tt)))) (λ _. refl)
-  quiet_kept (offer_reply bytes) = decide_all (λ (x : Plan). Kept (with_reply u bytes x).unit.state) (λ n. plain st (only n)) (offer_rules st (length bytes)) _ (refl, (refl, (refl, tt))) (λ _. refl)
+  quiet_kept (offer_reply bytes) =
+      decide_all (λ (x : Plan). Kept (with_reply u bytes x).unit.state) (λ k. plain st (refusing k)) (offer_rules st (length bytes)) _ (refl, (refl, (refl, tt))) (λ _. refl)
   quiet_kept (set_status status) = decide_all (λ (x : Said). Kept x.state) (refuse st) (thermostat_rules st) _ (refl, tt) (λ _. refl)
   quiet_kept front_panel = decide_all (λ (x : Said). Kept x.state) (refuse st) (thermostat_rules st) _ (refl, tt) (λ _. refl)
   quiet_kept bus_suspend = refl
@@ -115,12 +117,12 @@ module _ (u : Device) where
   abbrev KeptBy : SetupOutcome → Type 0
   KeptBy x = Kept (answered u x).unit.state
 
-  row_kept : (row : Row) → Kept (effected st (answer_row st row).effect) → KeptBy (asks-for st (Asks row))
+  row_kept : (row : Row) → Kept (effected st (answer_row st row).effect) → KeptBy (asks-for st (Some (Asks row)))
   unfolding answered asks-for
   row_kept row k = pick_all KeptBy _ _ _ (λ _. k) (λ _. refl)
 
   abbrev Safe : Column × (ℕ → Setup) → Type 0
-  Safe c = (c.0.index < 256) × (Harmless c.0.type c.0.request c.0.index → (v : ℕ) → KeptBy (asks-for st (c.1 v)))
+  Safe c = (c.0.index < 256) × (Harmless c.0.type c.0.request c.0.index → (v : ℕ) → KeptBy (asks-for st (Some (c.1 v))))
 
   abbrev Reacts : Reaction → Type 0
   Reacts x = Kept (effected st x.effect)
@@ -155,39 +157,42 @@ module _ (u : Device) where
   setup_kept : (s : List ℕ) (room : ℕ) → Harmless (at s 0) (at s 1) (at s 4) → Kept (setup u s room).unit.state
   unfolding setup setup_outcome answered asks-for
   setup_kept s room h =
-      decide_all KeptBy Denies (setup_rules (length s) room) _ (refl, tt)
-      (λ _. ⊎_elim (λ m. found (find s Safe rows (read_setup s) all_safe m)) (λ k. subst (λ (x : Setup). KeptBy (asks-for st x)) (sym k.0) refl) (setup_law s))
+      decide_all KeptBy Err (setup_rules (length s) room) _ (refl, tt)
+      (λ _. by (read_setup s) (setup_law s))
     where
-      found : Found s Safe (read_setup s) → KeptBy (asks-for st (read_setup s))
-      found f =
+      by : (x : Option Setup) → RowOf s x → KeptBy (asks-for st x)
+      by None _ = refl
+      by (Some x) m =
+          let f = find s Safe rows x all_safe m in
           let index : at s 4 ≡ f.row.0.index = let l = f.holds.0 in let e = f.fits.index in omega arith in
           let row = f.row.0 in
-          subst (λ (x : Setup). KeptBy (asks-for st x)) (sym f.asks)
+          subst (λ (x : Setup). KeptBy (asks-for st (Some x))) (sym f.asks)
           (f.holds.1 (subst (λ (n : ℕ). Harmless n row.request row.index) f.fits.type
           (subst (λ (n : ℕ). Harmless (at s 0) n row.index) f.fits.request (subst (Harmless (at s 0) (at s 1)) index h))) _)
 
   -- one that is refused
   refused_kept : (s : List ℕ) (room : ℕ) → Not ((setup u s room).answer.verdict.number ≡ 0) → Kept (setup u s room).unit.state
   unfolding setup setup_outcome answered asks-for
-  refused_kept s room = decide_all Refused Denies (setup_rules (length s) room) _ (λ _. refl, tt) (λ _. by (read_setup s))
+  refused_kept s room = decide_all Refused Err (setup_rules (length s) room) _ (λ _. refl, tt) (λ _. by (read_setup s))
     where
       Refused : SetupOutcome → Type 0
       Refused x = Not ((answered u x).answer.verdict.number ≡ 0) → KeptBy x
 
-      by : (x : Setup) → Refused (asks-for st x)
-      by (Configure value) n = absurd (n refl)
-      by (Asks row) n = pick_all Refused _ _ _ (λ _ n. absurd (n (row_done st row))) (λ _ _. refl) n
-      by NoRow n = refl
+      by : (x : Option Setup) → Refused (asks-for st x)
+      by (Some (Configure value)) n = absurd (n refl)
+      by (Some (Asks row)) n = pick_all Refused _ _ _ (λ _ n. absurd (n (row_done st row))) (λ _ _. refl) n
+      by None n = refl
 
   -- ** a REQUEST
 
   request_kept : (s : List ℕ) → Requests s → (out_of st).transfer.left ≡ 0 → (x : Outcome) → Came st s x → (planned st x).verdict.number ≡ 0 → Kept (planned st x).state
   unfolding planned accepted
+  request_kept s q l Nothing c z = refl
   request_kept s q l (Keep n) c z = refl
   request_kept s q l (Halt n) c z = let k = c.0 in absurd (omega arith)
   request_kept s q l (Data count) c z = absurd (c.0 l)
   request_kept s q l (Accept (Message tag size end) count) c z = let k = c.2.0 in absurd (omega arith)
-  request_kept s q l (Accept (Request tag size enabled term) count) c z = refl
+  request_kept s q l (Accept (Request tag size term) count) c z = refl
   request_kept s q l (Accept (Trigger tag) count) c z = let k = c.2.0 in absurd (omega arith)
 
 -- ** what is due

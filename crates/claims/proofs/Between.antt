@@ -5,8 +5,9 @@ use mathlib.Core.Path.{◌≡◌, refl}
 use mathlib.Core.Bool.{Bool, false, true≢false}
 use mathlib.Core.List.{List, [], ◌∷◌}
 use lib.ListN.{length}
+use Rattle.rules.specs.Answers.{refusing}
 use Rattle.rules.specs.Choice.{no}
-use Rattle.rules.specs.Answers.{DONE, only}
+use Rattle.rules.specs.Answers.{DONE}
 use Rattle.rules.proofs.Choice.{pick_all, decide_all}
 use Rattle.wire.specs.declared.types.Endpoint.TheVariants.{Out, In, Interrupt}
 use Rattle.wire.specs.declared.types.Row.{Row}
@@ -102,7 +103,7 @@ module _ (u : Device) where
   unfolding quietly bulk_in poll interrupt_in poll_interrupt offer offer_plan set_status_byte status_set panel returned suspend local_now
   quiet_kept (in_poll room) = decide_all SaidKept (refuse st) (in_rules st room) _ (refl, (refl, (refl, (refl, tt)))) (λ _. refl)
   quiet_kept (interrupt_poll room) = decide_all SaidKept (refuse st) (interrupt_rules st room) _ (refl, (refl, (refl, (refl, tt)))) (λ _. refl)
-  quiet_kept (offer_reply bytes) = decide_all (λ (p : Plan). Kept (with_reply u bytes p).unit) (λ n. plain st (only n)) (offer_rules st (length bytes)) _ (refl, (refl, (refl, tt))) (λ _. refl)
+  quiet_kept (offer_reply bytes) = decide_all (λ (p : Plan). Kept (with_reply u bytes p).unit) (λ k. plain st (refusing k)) (offer_rules st (length bytes)) _ (refl, (refl, (refl, tt))) (λ _. refl)
   quiet_kept (set_status status) = decide_all SaidKept (refuse st) (thermostat_rules st) _ (refl, tt) (λ _. refl)
   quiet_kept front_panel = decide_all SaidKept (refuse st) (thermostat_rules st) _ (refl, tt) (λ _. refl)
   quiet_kept bus_suspend = refl

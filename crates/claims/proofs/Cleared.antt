@@ -9,6 +9,7 @@ use mathlib.Core.Logic.{⊎_elim}
 use native.Mathlib.Omega.{arith}
 use lib.ListN.{length, take, drop, length-replicate}
 use borrow.Author.Tests.{eqb-true, eqb-false, le-ltb, ltb-false}
+use Rattle.std.specs.Prelude.{Option, Some}
 use Rattle.rules.specs.Choice.{no, pick, ◌≠ᵇ◌}
 use Rattle.rules.specs.Answers.{DONE}
 use Rattle.rules.proofs.Choice.{at_true, pick_all, decide_lines, decide_none, not_no, none_right, or_none, eq_neb}
@@ -30,8 +31,8 @@ use Rattle.port.specs.Survivors.{survivors}
 use Rattle.port.specs.Laws.{Stored, CHECK_CLEAR_STATUS, Succeeds}
 use Rattle.port.specs.declared.types.Setting.{Setting}
 use Rattle.port.specs.declared.types.Split.TheVariants.{None}
-use Rattle.port.specs.declared.types.SetupOutcome.{SetupOutcome}
-use Rattle.port.specs.declared.types.SetupOutcome.TheVariants.{Denies}
+use Rattle.port.specs.Answer.{SetupOutcome}
+use Rattle.std.specs.Prelude.{Err}
 use Rattle.port.specs.declared.types.State.{State}
 use Rattle.port.proofs.Opened.{computed}
 use Rattle.port.proofs.Soundness.{Sound, ClearSound, Phase, is_closed, is_asked, is_sending, is_owed_lem, sound_of, sound_to}
@@ -56,22 +57,22 @@ same_run (c ∷ later) u v su sv hu hv e =
 
 -- ** the fresh unit, as its calls make it
 
-pub serves : (u : Device) (s : List ℕ) (control : ℕ) (x : Setup) → is_sound u ≡ true → length s ≡ SETUP → CONTROL ≤ control → read_setup s ≡ x → step u (setup_of s control) ≡ answered u
+pub serves : (u : Device) (s : List ℕ) (control : ℕ) (x : Option Setup) → is_sound u ≡ true → length s ≡ SETUP → CONTROL ≤ control → read_setup s ≡ x → step u (setup_of s control) ≡ answered u
     (asked u.state x)
 unfolding soundly setup setup_outcome
 serves u s control x h long fits reads =
     step_sound u (setup_of s control) h
-    ∙ ap (answered u) (decide_none Denies (setup_rules (length s) control) _ (or_none _ _ (eq_neb _ _ long) (le-ltb control CONTROL fits), tt) ∙ ap (asked u.state) reads)
+    ∙ ap (answered u) (decide_none Err (setup_rules (length s) control) _ (or_none _ _ (eq_neb _ _ long) (le-ltb control CONTROL fits), tt) ∙ ap (asked u.state) reads)
 
-read_configure : read_setup SET_CONFIGURATION_1 ≡ Configure 1
+read_configure : read_setup SET_CONFIGURATION_1 ≡ Some (Configure 1)
 unfolding computed
 read_configure = refl
 
-read_halt : read_setup SET_FEATURE_OUT ≡ Asks (SetFeature Out)
+read_halt : read_setup SET_FEATURE_OUT ≡ Some (Asks (SetFeature Out))
 unfolding computed
 read_halt = refl
 
-read_check : read_setup CHECK_CLEAR_STATUS ≡ Asks CheckClearStatus
+read_check : read_setup CHECK_CLEAR_STATUS ≡ Some (Asks CheckClearStatus)
 unfolding computed
 read_check = refl
 
@@ -86,12 +87,12 @@ module _ (p : ℕ) (size : is_size p ≡ true) where
   configured_now : (step (made setting OFF) (setup_of SET_CONFIGURATION_1 CONTROL)).unit ≡ made setting ON
   unfolding made answered asked fresh
   configured_now =
-      ap (λ (r : Result). r.unit) (serves (made setting OFF) SET_CONFIGURATION_1 CONTROL (Configure 1) (sound_to _ (fresh_sound setting OFF size (omega arith))) refl
+      ap (λ (r : Result). r.unit) (serves (made setting OFF) SET_CONFIGURATION_1 CONTROL (Some (Configure 1)) (sound_to _ (fresh_sound setting OFF size (omega arith))) refl
       (omega arith) read_configure)
 
   halted_now : (step (made setting ON) (setup_of SET_FEATURE_OUT CONTROL)).unit ≡ with_state (made setting ON) (halted_out (fresh setting ON))
   unfolding made answered asked answer_row effected fresh pick
-  halted_now = ap (λ (r : Result). r.unit) (serves (made setting ON) SET_FEATURE_OUT CONTROL (Asks (SetFeature Out)) (sound_to _ (fresh_sound setting ON size (omega arith))) refl
+  halted_now = ap (λ (r : Result). r.unit) (serves (made setting ON) SET_FEATURE_OUT CONTROL (Some (Asks (SetFeature Out))) (sound_to _ (fresh_sound setting ON size (omega arith))) refl
       (omega arith) read_halt)
 
   pub halted_is : halted p ≡ with_state (made setting ON) (halted_out (fresh setting ON))
@@ -134,7 +135,7 @@ module _ (u : Device) (control : ℕ) where
   abbrev OutThen : SetupOutcome → Type 0
   OutThen x = Then (answered u x)
 
-  asked_then : CONTROL ≤ control → OutThen (asked u.state (Asks CheckClearStatus))
+  asked_then : CONTROL ≤ control → OutThen (asked u.state (Some (Asks CheckClearStatus)))
   unfolding answered asked answer_row
   asked_then fits = pick_all OutThen (is_configured u.state) _ _ (row_then fits) (λ _. numbered _ (λ e. omega arith))
 
@@ -142,8 +143,8 @@ module _ (u : Device) (control : ℕ) where
   unfolding step soundly setup setup_outcome answered
   cleared =
       pick_all Then (is_sound u) _ _
-      (λ _. decide_lines OutThen Denies (setup_rules (length CHECK_CLEAR_STATUS) control) _ (λ _. numbered _ (λ e. omega arith), tt)
-      (λ n. subst (λ (x : Setup). OutThen (asked u.state x)) (sym read_check) (asked_then (ltb-false control CONTROL (none_right (length CHECK_CLEAR_STATUS ≠ᵇ SETUP) _ n.0)))))
+      (λ _. decide_lines OutThen Err (setup_rules (length CHECK_CLEAR_STATUS) control) _ (λ _. numbered _ (λ e. omega arith), tt)
+      (λ n. subst (λ (x : Option Setup). OutThen (asked u.state x)) (sym read_check) (asked_then (ltb-false control CONTROL (none_right (length CHECK_CLEAR_STATUS ≠ᵇ SETUP) _ n.0)))))
       (λ _. numbered _ (λ e. omega arith))
 
 -- ** it is the fresh unit in all that counts

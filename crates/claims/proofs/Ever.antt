@@ -7,6 +7,9 @@ use mathlib.Core.List.{List, [], ◌∷◌, ◌++◌, append-nil, append_assoc}
 use mathlib.Core.Logic.{◌⊎◌, inl, inr}
 use native.Mathlib.Omega.{arith}
 use lib.ListN.{length, get_or}
+use Rattle.std.specs.Prelude.{Option, Some}
+use Rattle.rules.specs.declared.refusal.Refusal.{Refusal}
+use Rattle.rules.specs.Answers.{number_of}
 use Rattle.rules.specs.Answers.{done}
 use Rattle.rules.proofs.Choice.{pick_all, decide_all}
 use Rattle.wire.specs.Setup.{read_setup}
@@ -22,8 +25,8 @@ use Rattle.port.specs.Calls.{setup_rules, asked, setup_outcome, answered, setup}
 use Rattle.port.specs.Step.{setup_of, soundly, step, after}
 use Rattle.port.specs.Trace.{Event, trace}
 use Rattle.port.specs.Laws.{Stored}
-use Rattle.port.specs.declared.types.SetupOutcome.{SetupOutcome}
-use Rattle.port.specs.declared.types.SetupOutcome.TheVariants.{Denies}
+use Rattle.port.specs.Answer.{SetupOutcome}
+use Rattle.std.specs.Prelude.{Err}
 use Rattle.port.proofs.Opened.{computed}
 use Rattle.port.proofs.Calls.{power_on_sound, power_on_stored, step_sound}
 use Rattle.claims.specs.Command.{command, sending, Others}
@@ -82,7 +85,7 @@ since_is es ps k =
 
 -- ** GET_STATUS on 0x01 says that the unit is configured and Bulk-OUT runs
 
-read_status_lem : read_setup GET_STATUS_OUT ≡ Asks (GetStatus Out)
+read_status_lem : read_setup GET_STATUS_OUT ≡ Some (Asks (GetStatus Out))
 unfolding computed
 read_status_lem = refl
 
@@ -90,17 +93,17 @@ module _ (u : Device) (sound : is_sound u ≡ true) (control : ℕ) where
   abbrev Runs : Result → Type 0
   Runs r = r.answer ≡ record { verdict = done; bytes = 0 ∷ 0 ∷ [] } → (is_configured u.state ≡ true) × ((out_of u.state).halted ≡ 0)
 
-  refuses : (n : ℕ) → (n ≡ 0 → ⊥) → Runs (answered u (Denies n))
+  refuses : (k : Refusal) → (number_of k ≡ 0 → ⊥) → Runs (answered u (Err k))
   unfolding answered
-  refuses n k e = absurd (k (ap (λ (a : Answer). a.verdict.number) e))
+  refuses k n e = absurd (n (ap (λ (a : Answer). a.verdict.number) e))
 
   runs : Runs (step u (setup_of GET_STATUS_OUT control))
   unfolding soundly setup setup_outcome answered asked answer_row
   runs =
       subst Runs (sym (step_sound u (setup_of GET_STATUS_OUT control) sound))
-      (decide_all (λ (x : SetupOutcome). Runs (answered u x)) Denies (setup_rules (length GET_STATUS_OUT) control) _ (refuses _ (λ e. omega arith), tt)
-      (λ _. subst (λ (x : Setup). Runs (answered u (asked u.state x))) (sym read_status_lem)
-      (pick_all (λ (x : SetupOutcome). Runs (answered u x)) (is_configured u.state) _ _ (λ c e. (c, ap (λ (a : Answer). get_or a.bytes 0 0) e)) (λ _. refuses _ (λ e. omega arith)))))
+      (decide_all (λ (x : SetupOutcome). Runs (answered u x)) Err (setup_rules (length GET_STATUS_OUT) control) _ (refuses Refusal.WrongSize (λ e. omega arith), tt)
+      (λ _. subst (λ (x : Option Setup). Runs (answered u (asked u.state x))) (sym read_status_lem)
+      (pick_all (λ (x : SetupOutcome). Runs (answered u x)) (is_configured u.state) _ _ (λ c e. (c, ap (λ (a : Answer). get_or a.bytes 0 0) e)) (λ _. refuses Refusal.UnknownRow (λ e. omega arith)))))
 
 -- THE THEOREM
 pub whole_command_ever : WholeCommandEver step

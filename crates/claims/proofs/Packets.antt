@@ -4,22 +4,22 @@ use Prim.Native.Nat.{ℕ, ◌-◌, min}
 use mathlib.Core.Path.{◌≡◌, refl, ◌∙◌}
 use mathlib.Core.Bool.{true, false}
 use mathlib.Core.List.{List}
-use mathlib.Core.Logic.{◌⊎◌, inl, inr}
 use lib.ListN.{length}
 use borrow.Author.Tests.{eqb-true, eqb-false}
+use Rattle.rules.specs.Answers.{number_of}
 use Rattle.rules.specs.Choice.{◌=ᵇ◌, ◌<ᵇ◌}
 use Rattle.rules.specs.Answers.{DONE, UNCONFIGURED, WRONG_SIZE, HALTED, WAIT, NOT_IN_FOURS, SHORT_HEADER, BAD_TAG}
 use Rattle.rules.specs.Answers.{UNKNOWN_MSGID, RESERVED, WRONG_LENGTH, TOO_LONG, OUT_OF_TURN}
 use Rattle.rules.proofs.Choice.{pick_all, decide_all, at_true, at_false, and_left, and_both, neb_ne, neb_eq}
 use Rattle.wire.specs.Header.{HEADER, DEV_DEP_MSG_OUT, REQUEST_DEV_DEP_MSG_IN, MsgID, message_rules, request_rules}
 use Rattle.wire.specs.Header.{trigger_rules, reading_rules, read_message, read_request, read_trigger, read_header}
-use Rattle.wire.specs.declared.types.Read.{Read}
-use Rattle.wire.specs.declared.types.Read.TheVariants.{Good, Fault}
+use Rattle.wire.specs.Header.{Read}
+use Rattle.std.specs.Prelude.{Ok, Err}
 use Rattle.port.specs.Parts.{packet_size, is_open_out, out_of}
 use Rattle.port.specs.Out.{more_rules, more, data_length, header_rules, header_says, out_rules, outcome}
 use Rattle.port.specs.declared.types.State.{State}
 use Rattle.port.specs.declared.types.Outcome.{Outcome}
-use Rattle.port.specs.declared.types.Outcome.TheVariants.{Keep, Halt, Data, Accept}
+use Rattle.port.specs.declared.types.Outcome.TheVariants.{Nothing, Keep, Halt, Data, Accept}
 use Rattle.claims.specs.Wire.{nothing, accepted, broken_off, heard_packet}
 
 -- ** what is heard
@@ -41,25 +41,26 @@ module _ (s : List ℕ) where
 
 -- a header is read or halts
 abbrev Reads : List ℕ → Read → Type 0
-Reads s (Fault n) = heard_packet s n ≡ broken_off
-Reads s (Good h) = Unit {0}
+Reads s (Err k) = heard_packet s (number_of k) ≡ broken_off
+Reads s (Ok h) = Unit {0}
 
 header_read : (s : List ℕ) → Reads s (read_header s)
 unfolding read_header read_message read_request read_trigger
 header_read s =
     let ten = halting s RESERVED refl refl refl in
-    decide_all (Reads s) Fault (reading_rules s) _
+    decide_all (Reads s) Err (reading_rules s) _
     (halting s NOT_IN_FOURS refl refl refl, (halting s SHORT_HEADER refl refl refl, (halting s BAD_TAG refl refl refl, (halting s UNKNOWN_MSGID refl refl refl, tt))))
-    (λ _. pick_all (Reads s) (MsgID s =ᵇ DEV_DEP_MSG_OUT) _ _ (λ _. decide_all (Reads s) Fault (message_rules s) _ (ten, (ten, (ten, (ten, tt)))) (λ _. tt))
+    (λ _. pick_all (Reads s) (MsgID s =ᵇ DEV_DEP_MSG_OUT) _ _ (λ _. decide_all (Reads s) Err (message_rules s) _ (ten, (ten, (ten, (ten, tt)))) (λ _. tt))
     (λ _. pick_all (Reads s) (MsgID s =ᵇ REQUEST_DEV_DEP_MSG_IN) _ _
-    (λ _. decide_all (Reads s) Fault (request_rules s) _ (ten, (ten, (ten, (ten, tt)))) (λ _. pick_all (Reads s) _ _ _ (λ _. tt) (λ _. tt)))
-    (λ _. decide_all (Reads s) Fault (trigger_rules s) _ (ten, tt) (λ _. tt))))
+    (λ _. decide_all (Reads s) Err (request_rules s) _ (ten, (ten, (ten, (ten, tt)))) (λ _. pick_all (Reads s) _ _ _ (λ _. tt) (λ _. tt)))
+    (λ _. decide_all (Reads s) Err (trigger_rules s) _ (ten, tt) (λ _. tt))))
 
 abbrev pub Facts : State → List ℕ → Outcome → Type 0
-Facts st s (Keep n) = ((n ≡ 0) × (length s ≡ 0) × ((out_of st).transfer.left ≡ 0)) ⊎ (heard_packet s n ≡ nothing)
-Facts st s (Halt n) = heard_packet s n ≡ broken_off
+Facts st s Nothing = (length s ≡ 0) × ((out_of st).transfer.left ≡ 0)
+Facts st s (Keep k) = heard_packet s (number_of k) ≡ nothing
+Facts st s (Halt k) = heard_packet s (number_of k) ≡ broken_off
 Facts st s (Data count) = ((out_of st).transfer.left ≡ 0 → ⊥) × (count ≡ min (out_of st).transfer.left (length s))
-Facts st s (Accept h count) = ((out_of st).transfer.left ≡ 0) × (length s ≡ 0 → ⊥) × (count ≡ min (data_length h) (length s - HEADER)) × (read_header s ≡ Good h)
+Facts st s (Accept h count) = ((out_of st).transfer.left ≡ 0) × (length s ≡ 0 → ⊥) × (count ≡ min (data_length h) (length s - HEADER)) × (read_header s ≡ Ok h)
 
 module _ (st : State) (s : List ℕ) where
   more_facts : ((out_of st).transfer.left ≡ 0 → ⊥) → Facts st s (more (packet_size st) (out_of st).transfer.left s)
@@ -71,8 +72,8 @@ module _ (st : State) (s : List ℕ) where
 
   header_facts : (out_of st).transfer.left ≡ 0 → (length s ≡ 0 → ⊥) → (r : Read) → read_header s ≡ r → Reads s r → Facts st s (header_says st s r)
   unfolding header_says
-  header_facts e some (Fault n) is k = k
-  header_facts e some (Good h) is k =
+  header_facts e some (Err n) is k = k
+  header_facts e some (Ok h) is k =
       decide_all (Facts st s) Halt (header_rules st s h) _ (
         halting s OUT_OF_TURN refl refl refl,
         (halting s TOO_LONG refl refl refl, (halting s WRONG_LENGTH refl refl refl, tt)),
@@ -83,6 +84,6 @@ module _ (st : State) (s : List ℕ) where
   unfolding outcome
   outcome_facts =
       decide_all (Facts st s) Keep (out_rules st (length s)) _
-      (inr (keeping s UNCONFIGURED refl refl), (inr (keeping s WRONG_SIZE refl refl), (inr (keeping s HALTED refl refl), (inr (keeping s WAIT refl refl), tt))))
+      (keeping s UNCONFIGURED refl refl, (keeping s WRONG_SIZE refl refl, (keeping s HALTED refl refl, (keeping s WAIT refl refl, tt))))
       (λ _. pick_all (Facts st s) (is_open_out (out_of st)) _ _ (λ e. more_facts (neb_ne _ _ e))
-      (λ e. pick_all (Facts st s) (length s =ᵇ 0) _ _ (λ f. inl (refl, eqb-true _ _ f, neb_eq _ _ e)) (λ f. header_facts (neb_eq _ _ e) (eqb-false _ _ f) (read_header s) refl (header_read s))))
+      (λ e. pick_all (Facts st s) (length s =ᵇ 0) _ _ (λ f. (eqb-true _ _ f, neb_eq _ _ e)) (λ f. header_facts (neb_eq _ _ e) (eqb-false _ _ f) (read_header s) refl (header_read s))))

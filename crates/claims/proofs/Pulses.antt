@@ -7,18 +7,20 @@ use mathlib.Core.List.{List, [], ◌∷◌}
 use mathlib.Core.Logic.{◌⊎◌, inl, inr, ⊎_elim}
 use native.Mathlib.Omega.{arith}
 use lib.ListN.{length, take, drop}
+use Rattle.std.specs.Prelude.{Option, Some, None}
+use Rattle.rules.specs.declared.refusal.Refusal.{Refusal}
+use Rattle.rules.specs.Answers.{number_of}
 use Rattle.rules.specs.Choice.{◌≠ᵇ◌, no}
-use Rattle.rules.specs.Answers.{WRONG_SIZE, NO_ROW}
 use Rattle.rules.specs.When.{Not}
 use Rattle.rules.proofs.Choice.{pick_all, decide_all, decide_lines, none_left, neb_eq}
 use Rattle.wire.specs.Setup.{SETUP, read_setup}
-use Rattle.wire.specs.When.{at, Column, rows, Fits, Matches}
+use Rattle.wire.specs.When.{at, Column, rows, Fits, Matches, RowOf}
 use Rattle.wire.specs.declared.types.Row.{Row}
 use Rattle.wire.specs.declared.types.Row.TheVariants.{InitiateAbortBulkOut, CheckAbortBulkOutStatus, InitiateAbortBulkIn, CheckAbortBulkInStatus}
 use Rattle.wire.specs.declared.types.Row.TheVariants.{InitiateClear, CheckClearStatus, GetCapabilities, IndicatorPulse, ReadStatusByte}
 use Rattle.wire.specs.declared.types.Row.TheVariants.{RenControl, GoToLocal, LocalLockout, ClearFeature, SetFeature, GetStatus}
 use Rattle.wire.specs.declared.types.Setup.{Setup}
-use Rattle.wire.specs.declared.types.Setup.TheVariants.{Configure, Asks, NoRow}
+use Rattle.wire.specs.declared.types.Setup.TheVariants.{Configure, Asks}
 use Rattle.wire.proofs.When.{setup_law}
 use Rattle.port.specs.Parts.{is_open_out, is_open_in, is_owed, is_clear, out_of, in_of, interrupt_of, is_configured}
 use Rattle.port.specs.Interrupt.{is_waiting}
@@ -29,8 +31,8 @@ use Rattle.port.specs.Calls.{setup_rules, asked, setup_outcome, answered, setup}
 use Rattle.port.specs.Step.{SetupPacket, setup_packet, soundly, step}
 use Rattle.port.specs.declared.types.Split.{Split}
 use Rattle.port.specs.declared.types.Split.TheVariants.{None, AbortOut, AbortIn, Clear}
-use Rattle.port.specs.declared.types.SetupOutcome.{SetupOutcome}
-use Rattle.port.specs.declared.types.SetupOutcome.TheVariants.{Denies}
+use Rattle.port.specs.Answer.{SetupOutcome}
+use Rattle.std.specs.Prelude.{Err}
 use Rattle.port.specs.declared.types.State.{State}
 use Rattle.port.proofs.Opened.{computed}
 use Rattle.port.proofs.Calls.{step_sound}
@@ -75,7 +77,11 @@ none_or_pulse (GetStatus endpoint) = inl refl
 abbrev pulse_of : Setup → ℕ
 pulse_of (Configure value) = 0
 pulse_of (Asks row) = pulse row
-pulse_of NoRow = 0
+
+-- none of a packet that matches no row
+abbrev pulse_in : Option Setup → ℕ
+pulse_in (Some x) = pulse_of x
+pulse_in None = 0
 
 -- rows that do not
 abbrev Calm : List (Column × (ℕ → Setup)) → Type 0
@@ -134,10 +140,10 @@ eight (a ∷ b ∷ c ∷ d ∷ e ∷ f ∷ g ∷ []) n = absurd (omega arith)
 eight (a ∷ b ∷ c ∷ d ∷ e ∷ f ∷ g ∷ h ∷ i ∷ s) n = absurd (omega arith)
 
 -- the eight bytes that are read as INDICATOR_PULSE
-pulse_bytes : (p : SetupPacket) (x : Setup) → read_setup p.packet ≡ x → pulse_of x ≡ 2 → length p.packet ≡ 8 → Pulsing (setup_packet p)
+pulse_bytes : (p : SetupPacket) (x : Setup) → read_setup p.packet ≡ Some x → pulse_of x ≡ 2 → length p.packet ≡ 8 → Pulsing (setup_packet p)
 pulse_bytes p x reads e long =
     let s = p.packet in
-    let f = only_pulse s x (⊎_elim (λ m. subst (Matches s rows) reads m) (λ m. absurd (none (sym reads ∙ m.0))) (setup_law s)) e in
+    let f = only_pulse s x (subst (RowOf s) reads (setup_law s)) e in
     let value = f.high in
     let index = f.index in
     let size = f.size in
@@ -145,9 +151,6 @@ pulse_bytes p x reads e long =
     ∙ (λ i. f.type i ∷ f.request i ∷ low (at s 2) (at s 3) value i ∷ high (at s 2) (at s 3) value i ∷ low (at s 4) (at s 5) (le_of index) i ∷ high (at s 4) (at s 5) (le_of index) i ∷ one
     (at s 6) (at s 7) size i ∷ none_above (at s 6) (at s 7) size i ∷ [])
   where
-    none : x ≡ NoRow → ⊥
-    none k = let a : ◌≡◌ {A = ℕ} 2 0 = sym e ∙ ap pulse_of k in omega arith
-
     low : (a b : ℕ) → a + 256 * b ≤ 0 → a ≡ 0
     low a b l = omega arith
 
@@ -163,7 +166,7 @@ pulse_bytes p x reads e long =
     none_above : (a b : ℕ) → a + 256 * b ≡ 1 → b ≡ 0
     none_above a b l = omega arith
 
-read_pulse : read_setup (0xA1 ∷ 64 ∷ 0 ∷ 0 ∷ 0 ∷ 0 ∷ 1 ∷ 0 ∷ []) ≡ Asks IndicatorPulse
+read_pulse : read_setup (0xA1 ∷ 64 ∷ 0 ∷ 0 ∷ 0 ∷ 0 ∷ 1 ∷ 0 ∷ []) ≡ Some (Asks IndicatorPulse)
 unfolding computed
 read_pulse = refl
 
@@ -214,30 +217,30 @@ module _ (u : Device) (due : ℕ) (p : SetupPacket) where
   abbrev Then : SetupOutcome → Type 0
   Then x = Acts due (setup_packet p) (answered u x).answer
 
-  denied : (n : ℕ) → Not (n ≡ 0) → Then (Denies n)
+  denied : (k : Refusal) → Not (number_of k ≡ 0) → Then (Err k)
   unfolding answered
-  denied n k =
+  denied k n =
       record {
         tells = omega arith;
         triggered = λ z. absurd (omega arith);
         triggers = λ z. absurd z;
         pulsed = λ z. absurd (omega arith);
         pulses = λ _ z. absurd
-            (k z);
+            (n z);
         refused = λ _. (refl, refl);
       }
 
-  asked_acts : (x : Setup) → read_setup p.packet ≡ x → length p.packet ≡ 8 → Then (asked u.state x)
+  asked_acts : (x : Option Setup) → read_setup p.packet ≡ x → length p.packet ≡ 8 → Then (asked u.state x)
   unfolding answered asked
-  asked_acts (Configure value) reads long = record {
+  asked_acts (Some (Configure value)) reads long = record {
     tells = omega arith;
     triggered = λ z. absurd (omega arith);
     triggers = λ z. absurd z;
     pulsed = λ z. absurd (omega arith);
-    pulses = λ z _. let a : ◌≡◌ {A = ℕ} 0 2 = ap pulse_of (sym reads ∙ ap read_setup z ∙ read_pulse) in absurd (omega arith);
+    pulses = λ z _. let a : ◌≡◌ {A = ℕ} 0 2 = ap pulse_in (sym reads ∙ ap read_setup z ∙ read_pulse) in absurd (omega arith);
     refused = λ n. absurd (n refl);
   }
-  asked_acts (Asks row) reads long =
+  asked_acts (Some (Asks row)) reads long =
       let t = row_tells u.state row in
       pick_all Then (is_configured u.state) _ _
       (λ _. record {
@@ -245,15 +248,15 @@ module _ (u : Device) (due : ℕ) (p : SetupPacket) where
         triggered = λ z. absurd (⊎_elim (λ k. omega arith) (λ k. omega arith) (none_or_pulse row));
         triggers = λ z. absurd z;
         pulsed = λ z. (pulse_bytes p (Asks row) reads (sym t.1 ∙ z) long, t.0);
-        pulses = λ z _. t.1 ∙ ap pulse_of (sym reads ∙ ap read_setup z ∙ read_pulse);
+        pulses = λ z _. t.1 ∙ ap pulse_in (sym reads ∙ ap read_setup z ∙ read_pulse);
         refused = λ n. absurd (n t.0);
       })
-      (λ _. denied NO_ROW (λ z. omega arith))
-  asked_acts NoRow reads long = denied NO_ROW (λ z. omega arith)
+      (λ _. denied Refusal.UnknownRow (λ z. omega arith))
+  asked_acts None reads long = denied Refusal.UnknownRow (λ z. omega arith)
 
   pub setup_acts : is_sound u ≡ true → Acts due (setup_packet p) (step u (setup_packet p)).answer
   unfolding soundly setup setup_outcome answered
   setup_acts sound =
       subst (λ (r : Result). Acts due (setup_packet p) r.answer) (sym (step_sound u (setup_packet p) sound))
-      (decide_lines Then Denies (setup_rules (length p.packet) p.room) _ (λ _. denied WRONG_SIZE (λ z. omega arith), tt)
+      (decide_lines Then Err (setup_rules (length p.packet) p.room) _ (λ _. denied Refusal.WrongSize (λ z. omega arith), tt)
       (λ n. asked_acts (read_setup p.packet) refl (neb_eq _ _ (none_left (length p.packet ≠ᵇ SETUP) _ n.0))))

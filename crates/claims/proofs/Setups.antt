@@ -6,6 +6,7 @@ use mathlib.Core.Bool.{Bool, true, false}
 use mathlib.Core.List.{List, []}
 use native.Mathlib.Omega.{arith}
 use borrow.Author.Tests.{eqb-true}
+use Rattle.std.specs.Prelude.{Option, Some, None}
 use Rattle.rules.specs.Choice.{◌=ᵇ◌, ◌and◌, pick, ◌⇒◌∣◌, first}
 use Rattle.rules.proofs.Choice.{pick_all, at_true, at_false}
 use Rattle.wire.specs.Bytes.{byte}
@@ -17,7 +18,7 @@ use Rattle.wire.specs.declared.types.Row.TheVariants.{InitiateAbortBulkOut, Chec
 use Rattle.wire.specs.declared.types.Row.TheVariants.{InitiateClear, CheckClearStatus, GetCapabilities, IndicatorPulse, ReadStatusByte}
 use Rattle.wire.specs.declared.types.Row.TheVariants.{RenControl, GoToLocal, LocalLockout, ClearFeature, SetFeature, GetStatus}
 use Rattle.wire.specs.declared.types.Setup.{Setup}
-use Rattle.wire.specs.declared.types.Setup.TheVariants.{Configure, Asks, NoRow}
+use Rattle.wire.specs.declared.types.Setup.TheVariants.{Configure, Asks}
 use Rattle.port.specs.Answer.{Answer}
 use Rattle.claims.specs.Wire.{Heard, nothing, broken_off, wiped_out, heard_setup}
 
@@ -61,10 +62,10 @@ in_row (SetFeature Interrupt) a = nothing
 in_row (GetStatus endpoint) a = nothing
 
 -- a packet that matches no row is refused
-abbrev pub Told : List ℕ → Setup → Type 0
-Told s (Configure value) = (a : Answer) → in_bytes s a ≡ wiped_out
-Told s (Asks asked) = (a : Answer) → in_bytes s a ≡ in_row asked a
-Told s NoRow = Unit {0}
+abbrev pub Told : List ℕ → Option Setup → Type 0
+Told s (Some (Configure value)) = (a : Answer) → in_bytes s a ≡ wiped_out
+Told s (Some (Asks asked)) = (a : Answer) → in_bytes s a ≡ in_row asked a
+Told s None = Unit {0}
 
 by : (type asked index t q i : ℕ) (a : Answer) → type ≡ t → asked ≡ q → index ≡ i → by_bytes type asked index a ≡ by_bytes t q i a
 by type asked index t q i a e f g = rw (e, f, g)

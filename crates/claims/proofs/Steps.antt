@@ -9,6 +9,7 @@ use native.Mathlib.Omega.{arith}
 use lib.ListN.{length, take, drop, length-take, length-drop}
 use lib.Seq.{paste, paste-zero}
 use borrow.Author.Tests.{eqb-true, eqb-false}
+use Rattle.std.specs.Prelude.{Option, Some, None}
 use Rattle.rules.specs.Choice.{◌=ᵇ◌, pick}
 use Rattle.rules.specs.Answers.{DONE, UNCONFIGURED, WRONG_SIZE, NO_ROW, NOT_NOW, SUCCESS, FAILED, TRANSFER_NOT_IN_PROGRESS, SPLIT_IN_PROGRESS}
 use Rattle.rules.proofs.Choice.{pick_all, decide_all, at_true, at_false, not_no}
@@ -23,7 +24,7 @@ use Rattle.wire.specs.declared.types.Row.TheVariants.{InitiateAbortBulkOut, Chec
 use Rattle.wire.specs.declared.types.Row.TheVariants.{InitiateClear, CheckClearStatus, GetCapabilities, IndicatorPulse, ReadStatusByte}
 use Rattle.wire.specs.declared.types.Row.TheVariants.{RenControl, GoToLocal, LocalLockout, ClearFeature, SetFeature, GetStatus}
 use Rattle.wire.specs.declared.types.Setup.{Setup}
-use Rattle.wire.specs.declared.types.Setup.TheVariants.{Configure, Asks, NoRow}
+use Rattle.wire.specs.declared.types.Setup.TheVariants.{Configure, Asks}
 use Rattle.port.specs.Parts.{on, packet_size, is_open_out, is_clear, out_of, is_configured, no_message, empty_out, broken, fresh}
 use Rattle.port.specs.Answer.{Answer, Said, numbered, refuse}
 use Rattle.port.specs.Out.{opened, tagged, outcome, planned, accepted as acceptance, out_plan}
@@ -38,18 +39,18 @@ use Rattle.port.specs.Trace.{Octets, InOctets}
 use Rattle.port.specs.When.{given}
 use Rattle.port.specs.declared.types.OutMessage.{OutMessage}
 use Rattle.port.specs.declared.types.BulkOut.{BulkOut}
-use Rattle.port.specs.declared.types.SetupOutcome.{SetupOutcome}
-use Rattle.port.specs.declared.types.SetupOutcome.TheVariants.{Denies}
+use Rattle.port.specs.Answer.{SetupOutcome}
+use Rattle.std.specs.Prelude.{Err}
 use Rattle.port.specs.declared.types.State.{State}
 use Rattle.port.specs.declared.types.Outcome.{Outcome}
-use Rattle.port.specs.declared.types.Outcome.TheVariants.{Keep, Halt, Data, Accept}
+use Rattle.port.specs.declared.types.Outcome.TheVariants.{Nothing, Keep, Halt, Data, Accept}
 use Rattle.wire.proofs.When.{header_law}
 use Rattle.port.proofs.Sizes.{Size, size_of}
 use Rattle.port.proofs.Soundness.{OutSound, sound_of}
 use Rattle.port.proofs.When.{rule_for_every}
 use Rattle.port.proofs.KeepsOut.{out_held}
 use Rattle.port.proofs.Calls.{step_sound}
-use Rattle.claims.specs.Wire.{Heard, nothing, accepted, broken_off, wiped_out, handed_over, heard_packet, heard}
+use Rattle.claims.specs.Wire.{Heard, nothing, accepted, broken_off, wiped_out, handed_over, heard}
 use Rattle.claims.proofs.Between.{face, row_kept, quiet_kept}
 use Rattle.claims.proofs.Setups.{in_row, Told, told, heard_done, heard_refused}
 use Rattle.claims.proofs.Packets.{Facts, outcome_facts, passing}
@@ -148,18 +149,19 @@ module _ (u : Device) (stored : Stored u) (sound : is_sound u ≡ true) where
     abbrev Comes : SetupOutcome → Type 0
     Comes x = Goes packet (answered u x)
 
-    answers : (x : Setup) → Told p.packet x → Comes (asked st x)
+    answers : (x : Option Setup) → Told p.packet x → Comes (asked st x)
     unfolding heard answered asked made fresh
-    answers (Configure value) k = by_heard _ wiped_out _ (heard_done p.packet (numbered DONE) refl ∙ k (numbered DONE)) (record { size = refl; left = refl; end = refl; ready = refl; held = refl })
-    answers (Asks row) k =
+    answers (Some (Configure value)) k =
+        by_heard _ wiped_out _ (heard_done p.packet (numbered DONE) refl ∙ k (numbered DONE)) (record { size = refl; left = refl; end = refl; ready = refl; held = refl })
+    answers (Some (Asks row)) k =
         pick_all Comes (is_configured st) _ _
         (λ _. by_heard _ (in_row row (answer_row st row).answer) _ (heard_done p.packet _ (row_kept u row).0 ∙ k _) (row_goes row))
         (λ _. refusing NO_ROW refl)
-    answers NoRow k = refusing NO_ROW refl
+    answers None k = refusing NO_ROW refl
 
     setup_goes : Goes packet (setup u p.packet p.room)
     unfolding setup setup_outcome answered
-    setup_goes = decide_all Comes Denies (setup_rules (length p.packet) p.room) _ (refusing WRONG_SIZE refl, tt) (λ _. answers (read_setup p.packet) (told p.packet))
+    setup_goes = decide_all Comes Err (setup_rules (length p.packet) p.room) _ (refusing WRONG_SIZE refl, tt) (λ _. answers (read_setup p.packet) (told p.packet))
 
   -- ** a take
 
@@ -229,8 +231,8 @@ module _ (u : Device) (stored : Stored u) (sound : is_sound u ≡ true) where
           (λ r. begins opening f.0 (let q = r.0 in let n = k.long in let b = fours.least in omega arith) r.1
           (landed_part o u.message (drop 12 p) count (packet_size st) (is_configured st) long_enough k.room counted r.1))
           k.rest
-      comes_header (Request tag size enabled term) count f =
-          let m = header_law.meaning p (Request tag size enabled term) f.3 in
+      comes_header (Request tag size term) count f =
+          let m = header_law.meaning p (Request tag size term) f.3 in
           other (inl (requests u p g f.0 f.1 octets tag size m.1 m.2 m.0)) f.0
           (ap (λ (n : ℕ). take n u.message) (unheld u p g f.0 f.1 (inl m.0))) (unput (tagged (out_of st) tag))
       comes_header (Trigger tag) count f =
@@ -240,19 +242,16 @@ module _ (u : Device) (stored : Stored u) (sound : is_sound u ≡ true) where
 
     comes : (x : Outcome) → Facts st p x → given u (out_packet p) (planned st x).verdict.number → Goes (out_packet p) (with_message u p (planned st x))
     unfolding heard planned acceptance
-    comes (Keep n) f g =
-        ⊎_elim
-        (λ e. by_heard _ (accepted p) _ (ap (heard_packet p) e.0 ∙ passing p)
-        (let z = subst (given u (out_packet p)) e.0 g in (unready z, empty (nil p e.1) e.2 (unput (out_of st)))))
-        (λ e. by_heard _ nothing _ e (unput (out_of st))) f
+    comes Nothing f g = by_heard _ (accepted p) _ (passing p) (unready g, empty (nil p f.0) f.1 (unput (out_of st)))
       where
         nil : (l : List ℕ) → length l ≡ 0 → l ≡ []
         nil [] e = refl
         nil (b ∷ l) e = absurd (omega arith)
-    comes (Halt n) f g = by_heard _ broken_off _ f (subst (Broken w) (sym (unput (broken ON (out_of st)))) (breaks ON))
+    comes (Keep k) f g = by_heard _ nothing _ f (unput (out_of st))
+    comes (Halt k) f g = by_heard _ broken_off _ f (subst (Broken w) (sym (unput (broken ON (out_of st)))) (breaks ON))
     comes (Data count) f g = by_heard _ (accepted p) _ (passing p) (unready g, comes_data g count f)
     comes (Accept (Message tag size end) count) f g = by_heard _ (accepted p) _ (passing p) (unready g, comes_header g (Message tag size end) count f)
-    comes (Accept (Request tag size enabled term) count) f g = by_heard _ (accepted p) _ (passing p) (unready g, comes_header g (Request tag size enabled term) count f)
+    comes (Accept (Request tag size term) count) f g = by_heard _ (accepted p) _ (passing p) (unready g, comes_header g (Request tag size term) count f)
     comes (Accept (Trigger tag) count) f g = by_heard _ (accepted p) _ (passing p) (unready g, comes_header g (Trigger tag) count f)
 
     out_goes : Goes (out_packet p) (bulk_out u p)

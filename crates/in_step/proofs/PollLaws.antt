@@ -6,13 +6,18 @@ use mathlib.Core.Bool.{Bool, true, false, true≢false}
 use mathlib.Core.List.{List, [], ◌∷◌, ◌++◌}
 use native.Mathlib.Omega.{arith}
 use native.Mathlib.Numerals.{add-one}
+use mathlib.Core.Logic.{⊎_elim}
+use lib.Dec.{eqb}
+use Rattle.rules.proofs.When.{equals, decided}
 use lib.ListN.{length, get_or, take, drop, length-append, length-take, length-drop}
-use lib.Seq.{paste, drop-cons, drop-length, length-take-le, take_all, take-take, take-append-add, take_at, drop-append-add, drop-drop, get_or-take, get_or-drop}
+use lib.Seq.{paste, drop-cons, length-take-le, take_all, take-take, take-append-add, take_at, drop-append-add, drop-drop, get_or-take, get_or-drop}
 use borrow.Author.Tests.{eq-eqb, ne_eqb, ltb-false, leb-true, leb-false}
-use Rattle.rules.specs.Choice.{◌=ᵇ◌, ◌<ᵇ◌, ◌≤ᵇ◌, pick, first}
+use Rattle.std.specs.Prelude.{Result, Ok, Err}
+use Rattle.rules.specs.Choice.{◌=ᵇ◌, ◌<ᵇ◌, ◌≤ᵇ◌, pick, gate}
+use Rattle.rules.specs.declared.refusal.Refusal.{Refusal}
 use Rattle.rules.specs.Answers.{done}
 use Rattle.rules.proofs.Choice.{NoneOf, no_true, no_false, ne_neb, eq_neb, or_left, or_right, or_none, and_both, and_left, and_right}
-use Rattle.rules.proofs.Choice.{pick_true, pick_false, at_true, at_false, pick_all, decide_all, refuses, passes}
+use Rattle.rules.proofs.Choice.{pick_true, pick_false, at_true, at_false, pick_all, none_of, refuses, passes}
 use Rattle.wire.specs.Bytes.{byte, bytes4, into}
 use Rattle.wire.specs.Header.{HEADER, D1, in_header}
 use Rattle.port.specs.Parts.{STORE, CLOSED, ASKED, SENDING, OWED, on, is_size, in_of, packet_size, with_in, shut}
@@ -48,26 +53,22 @@ module _ (b : BulkIn) where
   pub reply_goes : (b.transfer.phase ≡ CLOSED → ⊥) → (b.reply.unsent ≡ 0 → ⊥) → false ≡ nothing_to_send b
   reply_goes n e = sym (and_right _ _ (or_none _ _ (no_false _ (ne_neb b.transfer.phase CLOSED n)) (no_false _ (or_left _ _ (ne_neb b.reply.unsent 0 e)))))
 
+  -- of a REQUEST that waits for its first packet: whether there is a reply
+  pub asked_waits : (b.transfer.phase ≡ OWED → ⊥) → (b.transfer.phase ≡ CLOSED → ⊥) → (b.transfer.phase ≡ SENDING → ⊥) → eqb b.reply.unsent 0 ≡ nothing_to_send b
+  asked_waits o n s = ⊎_elim (λ z. eq-eqb _ 0 z ∙ empty_waits o s z) (λ z. ne_eqb _ 0 z ∙ reply_goes n z) (decided _ (equals b.reply.unsent 0))
+
 -- ** up to and with the first TermChar
 
--- a turn of the loop over the n bytes from `from` on, and its ends
-module _ (char : ℕ) (s : List ℕ) (from n i : ℕ) (within : from + n ≤ length s) where
-  part_length : length (take n (drop from s)) ≡ n
-  part_length = length-take-le n (drop from s) (rw length-drop (omega arith))
+-- a turn of the loop, and its ends
+module _ (char : ℕ) (s : List ℕ) (i : ℕ) where
+  next_byte : i < length s → drop i s ≡ get_or s i 0 ∷ drop (i + 1) s
+  next_byte h = rw (add-one i) (drop-cons s i 0 h)
 
-  part_byte : i < n → drop i (take n (drop from s)) ≡ get_or s (from + i) 0 ∷ drop (i + 1) (take n (drop from s))
-  part_byte h =
-      let l = part_length in
-      rw (add-one i) (drop-cons (take n (drop from s)) i 0 (omega arith) ∙ ap (λ (x : ℕ). x ∷ drop (suc i) (take n (drop from s))) (get_or-take n (drop from s) i 0 h ∙ get_or-drop from s i 0))
+  pub up_step : i < length s → (get_or s i 0 ≡ char → ⊥) → up_to char (drop i s) ≡ 1 + up_to char (drop (i + 1) s)
+  up_step h e = ap (up_to char) (next_byte h) ∙ at_false _ _ _ (ne_eqb (get_or s i 0) char e) ∙ omega arith
 
-  pub up_step : i < n → (get_or s (from + i) 0 ≡ char → ⊥) → up_to char (drop i (take n (drop from s))) ≡ 1 + up_to char (drop (i + 1) (take n (drop from s)))
-  up_step h e = ap (up_to char) (part_byte h) ∙ at_false _ _ _ (ne_eqb (get_or s (from + i) 0) char e) ∙ omega arith
-
-  pub up_stop : i < n → get_or s (from + i) 0 ≡ char → up_to char (drop i (take n (drop from s))) ≡ 1
-  up_stop h e = ap (up_to char) (part_byte h) ∙ at_true _ _ _ (eq-eqb (get_or s (from + i) 0) char e)
-
-  pub up_end : i ≡ n → up_to char (drop i (take n (drop from s))) ≡ 0
-  up_end e = ap (λ (k : ℕ). up_to char (drop k (take n (drop from s)))) (e ∙ sym part_length) ∙ ap (up_to char) (drop-length (take n (drop from s)))
+  pub up_stop : i < length s → get_or s i 0 ≡ char → up_to char (drop i s) ≡ 1
+  up_stop h e = ap (up_to char) (next_byte h) ∙ at_true _ _ _ (eq-eqb (get_or s i 0) char e)
 
 -- of a part, as many as it has
 up_take : (char m : ℕ) (s : List ℕ) → up_to char (take m s) ≡ min m (up_to char s)
@@ -256,23 +257,23 @@ module _ (p : ℕ) (b : BulkIn) (unsent : List ℕ) where
 
 -- ** a poll
 
-module _ (st : State) (unsent : List ℕ) (room number : ℕ) (gate : number ≡ first (in_rules st room) 0) where
-  pub poll_refused : (before : List ℕ) → (number ≡ 0 → ⊥) → Hands (poll st unsent room) (given_of (refuse st number)) before before
+module _ (st : State) (unsent : List ℕ) (room : ℕ) (told : Result (Unit {0}) Refusal) (is : told ≡ gate (in_rules st room)) where
+  pub poll_refused : (before : List ℕ) (r : Refusal) → told ≡ Err r → Hands (poll st unsent room) (given_of (refuse st r)) before before
   unfolding poll
-  poll_refused before e = hands_by _ before before (refuses (refuse st) (in_rules st room) _ number tt gate e) (refl, refl)
+  poll_refused before r e = hands_by _ before before (refuses (refuse st) (in_rules st room) _ told is r e) (refl, refl)
 
-  pub poll_packet : (packet : Packet) (r : InPacket) (before after : List ℕ) → number ≡ 0 → packet ≡ next_packet (packet_size st) (in_of st) unsent → Cuts packet r before after
+  pub poll_packet : (packet : Packet) (r : InPacket) (before after : List ℕ) → told ≡ Ok tt → packet ≡ next_packet (packet_size st) (in_of st) unsent → Cuts packet r before after
       → Hands (poll st unsent room) (record { state = with_in st r.side; verdict = done; len = r.len }) before after
   unfolding poll
   poll_packet packet r before after passed e c =
-      hands_by _ before after (ap (sends st) e ∙ passes (refuse st) (in_rules st room) _ number tt gate passed)
+      hands_by _ before after (ap (sends st) e ∙ passes (refuse st) (in_rules st room) _ told is passed)
       (ap (λ (x : InPacket). record { state = with_in st x.side; verdict = done; len = x.len }) c.0, c.1)
 
 -- a poll that is not refused, and is owed no packet, finds one that can go
-module _ (st : State) (room number : ℕ) (whole : sound st ≡ true) (gate : number ≡ first (in_rules st room) 0) (passed : number ≡ 0) (unowed : (in_of st).transfer.phase ≡ OWED → ⊥) where
+module _ (st : State) (room : ℕ) (whole : sound st ≡ true) (told : Result (Unit {0}) Refusal) (is : told ≡ gate (in_rules st room))
+    (passed : told ≡ Ok tt) (unowed : (in_of st).transfer.phase ≡ OWED → ⊥) where
   pub poll_can : CanSend (packet_size st) (in_of st) room
-  poll_can = decide_all (λ (n : ℕ). n ≡ 0 → CanSend (packet_size st) (in_of st) room) (λ n. n) (in_rules st room) 0
-      (λ e. absurd (omega arith), (λ e. absurd (omega arith), (λ e. absurd (omega arith), (λ e. absurd (omega arith), tt)))) can (sym gate ∙ passed)
+  poll_can = can (none_of (in_rules st room) told is passed)
     where
       size : is_size (packet_size st) ≡ true → HEADER ≤ packet_size st
       size e = let k = (size_of (packet_size st) e).least in omega arith
@@ -295,8 +296,8 @@ module _ (st : State) (room number : ℕ) (whole : sound st ≡ true) (gate : nu
       going (is_sending e s) n r a = record { left = s.stored; reply = r; sent = s.count }
       going (is_owed_lem e t i) n r a = absurd (unowed e)
 
-      can : NoneOf (in_rules st room) → ◌≡◌ {A = ℕ} 0 0 → CanSend (packet_size st) (in_of st) room
-      can n e =
+      can : NoneOf (in_rules st room) → CanSend (packet_size st) (in_of st) room
+      can n =
           let s = sound_of st whole in
           let w = n.1.1.1.0 in
           let l = ltb-false room (packet_size st) n.1.0 in

@@ -4,7 +4,9 @@ use Prim.Native.Nat.{ℕ, ◌≤◌}
 use mathlib.Core.Path.{◌≡◌, refl}
 use mathlib.Core.List.{List}
 use borrow.Author.Tests.{ltb-false}
-use Rattle.rules.specs.Choice.{first}
+use Rattle.std.specs.Prelude.{Result, Ok, Err}
+use Rattle.rules.specs.Choice.{gate}
+use Rattle.rules.specs.declared.refusal.Refusal.{Refusal}
 use Rattle.rules.specs.Answers.{done}
 use Rattle.rules.proofs.Choice.{none_of, refuses, passes}
 use Rattle.wire.specs.Bytes.{into}
@@ -15,16 +17,16 @@ use Rattle.port.specs.Given.{given_of, Hands}
 use Rattle.port.specs.declared.types.State.{State}
 use Rattle.state_parts.proofs.Handed.{hands_by}
 
-module _ (st : State) (room number : ℕ) (gate : number ≡ first (interrupt_rules st room) 0) where
-  pub poll_refused : (before : List ℕ) → (number ≡ 0 → ⊥) → Hands (poll_interrupt st room) (given_of (refuse st number)) before before
+module _ (st : State) (room : ℕ) (told : Result (Unit {0}) Refusal) (is : told ≡ gate (interrupt_rules st room)) where
+  pub poll_refused : (before : List ℕ) (r : Refusal) → told ≡ Err r → Hands (poll_interrupt st room) (given_of (refuse st r)) before before
   unfolding poll_interrupt
-  poll_refused before e = hands_by _ before before (refuses (refuse st) (interrupt_rules st room) _ number tt gate e) (refl, refl)
+  poll_refused before r e = hands_by _ before before (refuses (refuse st) (interrupt_rules st room) _ told is r e) (refl, refl)
 
   -- the buffer takes the packet
-  pub poll_room : number ≡ 0 → NOTIFY ≤ room
-  poll_room passed = ltb-false room NOTIFY (none_of (interrupt_rules st room) number tt gate passed).1.0
+  pub poll_room : told ≡ Ok tt → NOTIFY ≤ room
+  poll_room passed = ltb-false room NOTIFY (none_of (interrupt_rules st room) told is passed).1.0
 
-  pub poll_packet : (before after : List ℕ) → number ≡ 0 → after ≡ into (notify_bytes (interrupt_of st).waiting) before
+  pub poll_packet : (before after : List ℕ) → told ≡ Ok tt → after ≡ into (notify_bytes (interrupt_of st).waiting) before
       → Hands (poll_interrupt st room) (record { state = with_interrupt st (polled (interrupt_of st)); verdict = done; len = NOTIFY }) before after
   unfolding poll_interrupt
-  poll_packet before after passed e = hands_by _ before after (passes (refuse st) (interrupt_rules st room) _ number tt gate passed) (refl, e)
+  poll_packet before after passed e = hands_by _ before after (passes (refuse st) (interrupt_rules st room) _ told is passed) (refl, e)

@@ -1,17 +1,14 @@
 // What a Bulk-OUT packet comes to, decided over the state.
 ghost use Rattle.std.specs.Prelude.{◌≡◌, ℕ, ◌<◌};
-ghost use Rattle.rules.specs.Choice.{first};
-ghost use Rattle.wire.specs.Header.{aligned, read_header, header_number};
+ghost use Rattle.rules.specs.Choice.{gate};
+ghost use Rattle.wire.specs.Header.{aligned, read_header};
 ghost use Rattle.port.specs.Parts.{unfinished};
 ghost use Rattle.port.specs.Out.{wrong_length, more, request_out_of_turn, out_of_turn, data_length, header_rules, header_says, out_rules, outcome};
 
 use port::types::{BulkIn, BulkOut, CLOSED, Outcome, STORE, State};
-use rules::{
-    DONE, HALTED, NOT_IN_FOURS, OUT_OF_TURN, TOO_LONG, UNCONFIGURED, WAIT, WRONG_LENGTH, WRONG_SIZE,
-};
-use wire::types::{Header, Read};
+use rules::refusal::Refusal;
+use wire::types::Header;
 use wire_code::header::{HEADER, not_in_fours, read_header};
-use wire_code::numbers::{least, widened};
 
 // A store's bytes, as a TransferSize.
 pub const MOST: u32 = STORE as u32;
@@ -25,60 +22,46 @@ fn aligned(n: usize) -> usize
 }
 
 // A packet of n bytes where `due` are to come: it has more, or it is short and has fewer.
+#[tactic(auto, using(rules::proofs::Choice::bools))]
 fn wrong_length(p: usize, n: usize, due: usize) -> bool
     ensures { result ≡ wrong_length p n due }
 {
-    if due < n {
-        return true;
-    }
-    if p <= n {
-        return false;
-    }
-    if due <= n {
-        return false;
-    }
-    true
+    due < n || n < due && n < p
 }
 
 // A packet of an open transfer.
+#[tactic(auto, using(rules::proofs::Choice::picks), unfolding(port::specs::Out::more))]
 fn more(p: usize, left: u16, s: &[u8]) -> Outcome
     ensures { result ≡ more p left s.now }
 {
     if not_in_fours(s) {
         return Outcome::Halt {
-            number: NOT_IN_FOURS,
+            refusal: Refusal::NotInFours,
         };
     }
-    let due = widened(left);
+    let due = usize::from(left);
     if wrong_length(p, s.len(), aligned(due)) {
         return Outcome::Halt {
-            number: WRONG_LENGTH,
+            refusal: Refusal::WrongLength,
         };
     }
     Outcome::Data {
-        count: least(due, s.len()),
+        count: due.min(s.len()),
     }
 }
 
+#[tactic(auto, using(rules::proofs::Choice::bools))]
 fn unfinished(o: BulkOut) -> bool
     ensures { result ≡ unfinished o }
 {
-    if o.message.ready != 0 {
-        return false;
-    }
-    if o.message.held == 0 {
-        return false;
-    }
-    true
+    o.message.ready == 0 && o.message.held != 0
 }
 
+#[tactic(auto, using(rules::proofs::Choice::bools))]
 fn request_out_of_turn(o: BulkOut, b: BulkIn) -> bool
     ensures { result ≡ request_out_of_turn o b }
 {
-    if b.transfer.phase != CLOSED {
-        return true;
-    }
-    unfinished(o)
+    b.transfer.phase != CLOSED || unfinished(o)
 }
 
 // A header that comes out of turn.
@@ -86,18 +69,9 @@ fn out_of_turn(o: BulkOut, b: BulkIn, h: Header) -> bool
     ensures { result ≡ out_of_turn o b h }
 {
     match h {
-        Header::Message {
-            tag: _,
-            size: _,
-            end: _,
-        } => false,
-        Header::Request {
-            tag: _,
-            size: _,
-            enabled: _,
-            term: _,
-        } => request_out_of_turn(o, b),
-        Header::Trigger { tag: _ } => unfinished(o),
+        Header::Message { .. } => false,
+        Header::Request { .. } => request_out_of_turn(o, b),
+        Header::Trigger { .. } => unfinished(o),
     }
 }
 
@@ -106,108 +80,86 @@ fn data_length(h: Header) -> u32
     ensures { result ≡ data_length h }
 {
     match h {
-        Header::Message {
-            tag: _,
-            size,
-            end: _,
-        } => size,
-        Header::Request {
-            tag: _,
-            size: _,
-            enabled: _,
-            term: _,
-        } => 0,
-        Header::Trigger { tag: _ } => 0,
+        Header::Message { size, .. } => size,
+        Header::Request { .. } | Header::Trigger { .. } => 0,
     }
 }
 
-// The first of 13, 12 and 11 that applies to a header, or 0.
-fn header_fault(st: State, s: &[u8], h: Header) -> u8
-    ensures { result ≡ first (header_rules st s.now h) 0 }
+// The first of 13, 12 and 11 that applies to a header refuses it.
+#[tactic(auto, using(rules::proofs::Choice::picks))]
+fn header_fault(st: State, s: &[u8], h: Header) -> Result<(), Refusal>
+    ensures { result ≡ gate (header_rules st s.now h) }
 {
     let o = st.small.bulkout;
-    let b = st.small.bulkin;
-    if out_of_turn(o, b, h) {
-        return OUT_OF_TURN;
+    if out_of_turn(o, st.small.bulkin, h) {
+        return Err(Refusal::OutOfTurn);
     }
     let size = data_length(h);
-    if MOST < size {
-        return TOO_LONG;
-    }
-    let held = o.message.held as u32;
-    if MOST < held + size {
-        return TOO_LONG;
+    if MOST < size || MOST < u32::from(o.message.held) + size {
+        return Err(Refusal::TooLong);
     }
     let due = HEADER + aligned(size as usize);
-    if wrong_length(widened(st.small.port.setting.packet), s.len(), due) {
-        return WRONG_LENGTH;
+    if wrong_length(usize::from(st.small.port.setting.packet), s.len(), due) {
+        return Err(Refusal::WrongLength);
     }
-    DONE
+    Ok(())
 }
 
-// The number of a fault; 0 for a header that is read.
-fn header_number(r: Read) -> u8
-    ensures { result ≡ header_number r }
-{
-    match r {
-        Read::Good { header: _ } => DONE,
-        Read::Fault { number } => number,
-    }
-}
-
-// A packet between transfers that is not empty: its header, or the fault that halts.
+// A packet between transfers that is not empty: its header, or the fault that halts, by the `let .. else` that document 01 asks for.
 fn header_says(st: State, s: &[u8]) -> Outcome
     ensures { result ≡ header_says st s.now (read_header s.now) }
 {
-    let r = read_header(s);
-    let Read::Good { header } = r else {
-        let number = header_number(r);
-        return Outcome::Halt { number };
+    let read = read_header(s);
+    let Ok(header) = read else {
+        return Outcome::Halt {
+            refusal: read.unwrap_err(),
+        };
     };
-    let number = header_fault(st, s, header);
-    if number != 0 {
-        return Outcome::Halt { number };
+    if let Err(refusal) = header_fault(st, s, header) {
+        return Outcome::Halt { refusal };
     }
     let size = data_length(header) as usize;
-    let count = least(size, s.len() - HEADER);
-    Outcome::Accept { header, count }
+    Outcome::Accept {
+        header,
+        count: size.min(s.len() - HEADER),
+    }
 }
 
-// The first of 2 to 5 that applies to a packet of n bytes, or 0.
-fn out_gate(st: State, n: usize) -> u8
-    ensures { result ≡ first (out_rules st n) 0 }
+// The first of 2 to 5 that applies to a packet of n bytes refuses it.
+#[tactic(auto, using(rules::proofs::Choice::picks))]
+fn out_gate(st: State, n: usize) -> Result<(), Refusal>
+    ensures { result ≡ gate (out_rules st n) }
 {
     let o = st.small.bulkout;
     if st.small.port.configured != 1 {
-        return UNCONFIGURED;
+        return Err(Refusal::Unconfigured);
     }
-    if widened(st.small.port.setting.packet) < n {
-        return WRONG_SIZE;
+    if usize::from(st.small.port.setting.packet) < n {
+        return Err(Refusal::WrongSize);
     }
     if o.halted == 1 {
-        return HALTED;
+        return Err(Refusal::Halted);
     }
     if o.message.ready == 1 {
-        return WAIT;
+        return Err(Refusal::Wait);
     }
-    DONE
+    Ok(())
 }
 
 // What a packet comes to on a sound unit.
+#[tactic(auto, using(crate::proofs::Outcomes::outcome_ways))]
 pub fn outcome(st: State, s: &[u8]) -> Outcome
     ensures { result ≡ outcome st s.now }
 {
-    let number = out_gate(st, s.len());
-    if number != 0 {
-        return Outcome::Keep { number };
+    if let Err(refusal) = out_gate(st, s.len()) {
+        return Outcome::Keep { refusal };
     }
-    let o = st.small.bulkout;
-    let left = o.transfer.left;
+    let left = st.small.bulkout.transfer.left;
     if left != 0 {
-        return more(widened(st.small.port.setting.packet), left, s);
+        return more(usize::from(st.small.port.setting.packet), left, s);
     }
-    if s.len() == 0 {
-        return Outcome::Keep { number: DONE };
+    if s.is_empty() {
+        return Outcome::Nothing;
     }
     header_says(st, s)
 }

@@ -1,36 +1,26 @@
 // What a Bulk-OUT packet leaves, by what it comes to.
 ghost use Rattle.std.specs.Prelude.{◌≡◌, ℕ};
-ghost use Rattle.port.specs.Out.{opened, CanAbsorb, CanAccept, Can, plain, accepted, planned};
+ghost use Rattle.port.specs.Out.{opened, CanAbsorb, CanAccept, Can, accepted, planned};
 
 use crate::sides::{absorbed, opened, requested, tagged};
 use port::types::{Outcome, Plan, State};
+use rules::refusal::Refusal;
 use rules::verdict::{Verdict, only};
 use rules::{DONE, TELLS_TRIGGER};
+use state_parts::given::plain;
 use state_parts::parts::{broken, with_in, with_out, with_remote};
 use state_remote::remote::headed;
 use wire::types::Header;
 use wire_code::header::HEADER;
 
-pub fn plain(state: State, verdict: Verdict) -> Plan
-    ensures { result ≡ plain state verdict }
-{
-    Plan {
-        state,
-        verdict,
-        from: 0,
-        count: 0,
-    }
-}
-
 // A DEV_DEP_MSG_OUT header with its first data bytes.
+#[tactic(auto, unfolding(port::specs::Out::accepted))]
 fn message_accepted(st: State, tag: u8, size: u32, end: u8, count: usize) -> Plan
     requires { CanAbsorb (opened st.small.bulkout tag size end) count }
     ensures { result ≡ accepted st (Header.Message tag size end) count }
 {
-    let o = st.small.bulkout;
-    let r = st.remote;
-    let remote = headed(st.small.port.ren, r);
-    let bulkout = absorbed(opened(o, tag, size as u16, end), count);
+    let remote = headed(st.small.port.ren, st.remote);
+    let bulkout = absorbed(opened(st.small.bulkout, tag, size as u16, end), count);
     Plan {
         state: with_remote(with_out(st, bulkout), remote),
         verdict: only(DONE),
@@ -40,25 +30,22 @@ fn message_accepted(st: State, tag: u8, size: u32, end: u8, count: usize) -> Pla
 }
 
 // A REQUEST_DEV_DEP_MSG_IN header.
-fn request_accepted(st: State, tag: u8, size: u32, enabled: u8, term: u8, count: usize) -> Plan
-    ensures { result ≡ accepted st (Header.Request tag size enabled term) count }
+#[tactic(auto, unfolding(port::specs::Out::accepted))]
+fn request_accepted(st: State, tag: u8, size: u32, term: Option<u8>, count: usize) -> Plan
+    ensures { result ≡ accepted st (Header.Request tag size term) count }
 {
-    let o = st.small.bulkout;
-    let b = st.small.bulkin;
-    let out = with_out(st, tagged(o, tag));
-    plain(
-        with_in(out, requested(b, tag, size, enabled, term)),
-        only(DONE),
-    )
+    let out = with_out(st, tagged(st.small.bulkout, tag));
+    let bulkin = requested(st.small.bulkin, tag, size, term);
+    plain(with_in(out, bulkin), only(DONE))
 }
 
 // A TRIGGER header.
+#[tactic(auto, unfolding(port::specs::Out::accepted))]
 fn trigger_accepted(st: State, tag: u8, count: usize) -> Plan
     ensures { result ≡ accepted st (Header.Trigger tag) count }
 {
-    let o = st.small.bulkout;
     plain(
-        with_out(st, tagged(o, tag)),
+        with_out(st, tagged(st.small.bulkout, tag)),
         Verdict {
             number: DONE,
             tells: TELLS_TRIGGER,
@@ -72,30 +59,26 @@ fn accepted(st: State, h: Header, count: usize) -> Plan
 {
     match h {
         Header::Message { tag, size, end } => message_accepted(st, tag, size, end, count),
-        Header::Request {
-            tag,
-            size,
-            enabled,
-            term,
-        } => request_accepted(st, tag, size, enabled, term, count),
+        Header::Request { tag, size, term } => request_accepted(st, tag, size, term, count),
         Header::Trigger { tag } => trigger_accepted(st, tag, count),
     }
 }
 
-fn halts(st: State, number: u8) -> Plan
-    ensures { result ≡ planned st (Outcome.Halt number) }
+#[tactic(auto, unfolding(port::specs::Out::planned))]
+fn halts(st: State, refusal: Refusal) -> Plan
+    ensures { result ≡ planned st (Outcome.Halt refusal) }
 {
     let o = st.small.bulkout;
-    plain(with_out(st, broken(1, o)), only(number))
+    plain(with_out(st, broken(1, o)), Verdict::from(refusal))
 }
 
+#[tactic(auto, unfolding(port::specs::Out::planned))]
 fn data(st: State, count: usize) -> Plan
     requires { CanAbsorb st.small.bulkout count }
     ensures { result ≡ planned st (Outcome.Data count) }
 {
-    let o = st.small.bulkout;
     Plan {
-        state: with_out(st, absorbed(o, count)),
+        state: with_out(st, absorbed(st.small.bulkout, count)),
         verdict: only(DONE),
         from: 0,
         count,
@@ -103,13 +86,15 @@ fn data(st: State, count: usize) -> Plan
 }
 
 // What an outcome leaves.
+#[tactic(auto, unfolding(port::specs::Out::planned))]
 pub fn planned(st: State, x: Outcome) -> Plan
     requires { Can st x }
     ensures { result ≡ planned st x }
 {
     match x {
-        Outcome::Keep { number } => plain(st, only(number)),
-        Outcome::Halt { number } => halts(st, number),
+        Outcome::Nothing => plain(st, only(DONE)),
+        Outcome::Keep { refusal } => plain(st, Verdict::from(refusal)),
+        Outcome::Halt { refusal } => halts(st, refusal),
         Outcome::Data { count } => data(st, count),
         Outcome::Accept { header, count } => accepted(st, header, count),
     }

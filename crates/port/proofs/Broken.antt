@@ -7,6 +7,7 @@ use mathlib.Core.List.{List, [], ◌∷◌}
 use native.Mathlib.Omega.{arith}
 use borrow.Author.Tests.{eqb-true, ne_eqb}
 use lib.ListN.{length}
+use Rattle.std.specs.Prelude.{Option, Some, None}
 use Rattle.rules.specs.Choice.{◌=ᵇ◌, ◌and◌}
 use Rattle.rules.specs.Answers.{DONE, UNSOUND, WRONG_SIZE, NO_ROW, SUCCESS, SPLIT_IN_PROGRESS, Leaves, as_ruled, unchanged, out_halted, leaves}
 use Rattle.rules.proofs.Choice.{pick_all, decide_all, eq_neb, and_left, and_right, both_right}
@@ -19,7 +20,7 @@ use Rattle.wire.specs.declared.types.Row.TheVariants.{InitiateAbortBulkOut, Chec
 use Rattle.wire.specs.declared.types.Row.TheVariants.{InitiateClear, CheckClearStatus, GetCapabilities, IndicatorPulse, ReadStatusByte}
 use Rattle.wire.specs.declared.types.Row.TheVariants.{RenControl, GoToLocal, LocalLockout, ClearFeature, SetFeature, GetStatus}
 use Rattle.wire.specs.declared.types.Setup.{Setup}
-use Rattle.wire.specs.declared.types.Setup.TheVariants.{Configure, Asks, NoRow}
+use Rattle.wire.specs.declared.types.Setup.TheVariants.{Configure, Asks}
 use Rattle.port.specs.Parts.{on, is_open_out, unfinished, is_clear, out_of, is_configured, closed_out, broken, fresh, empty_out}
 use Rattle.port.specs.Rows.{Reaction, answering, reacts, abort_rules, out_tag, initiate_abort_out}
 use Rattle.port.specs.Rows.{initiate_clear, clearing, clear_feature_out, answer_row, effected}
@@ -31,8 +32,8 @@ use Rattle.port.specs.Laws.{LeftAs, BreakDrops}
 use Rattle.port.specs.declared.types.OutMessage.{OutMessage}
 use Rattle.port.specs.declared.types.BulkOut.{BulkOut}
 use Rattle.port.specs.declared.types.Effect.TheVariants.{AbortsOut, Clears}
-use Rattle.port.specs.declared.types.SetupOutcome.{SetupOutcome}
-use Rattle.port.specs.declared.types.SetupOutcome.TheVariants.{Denies}
+use Rattle.port.specs.Answer.{SetupOutcome}
+use Rattle.std.specs.Prelude.{Err}
 use Rattle.port.specs.declared.types.State.{State}
 use Rattle.port.proofs.Calls.{leaves_table}
 
@@ -87,18 +88,20 @@ row_drops st (SetFeature Interrupt) = λ e. absurd (false≢true e)
 row_drops st (GetStatus endpoint) = λ e. absurd (false≢true e)
 
 -- a refusal of setup is no break
-abbrev SetupDrops : Setup → Result → Type 0
+abbrev SetupDrops : Option Setup → Result → Type 0
 SetupDrops x r = (r.answer.verdict.number =ᵇ DONE and breaks_setup x r.answer.bytes) ≡ true → Dropped (out_of r.unit.state)
 
-refusal : (u : Device) (x : Setup) (n : ℕ) → (n =ᵇ DONE) ≡ false → SetupDrops x (refused u n)
+refusal : (u : Device) (x : Option Setup) (n : ℕ) → (n =ᵇ DONE) ≡ false → SetupDrops x (refused u n)
 refusal u x n e b = absurd (false≢true (sym (and_left _ _ e) ∙ b))
 
-setup_drops : (u : Device) (x : Setup) → SetupDrops x (answered u (asked u.state x))
+setup_drops : (u : Device) (x : Option Setup) → SetupDrops x (answered u (asked u.state x))
 unfolding answered asked made fresh
-setup_drops u (Configure value) = λ _. empty_dropped OFF 0
-setup_drops u (Asks row) = pick_all (λ (x : SetupOutcome). SetupDrops (Asks row) (answered u x)) (is_configured u.state) _ _ (λ _ b. row_drops u.state row (both_right _ _ b))
-    (λ _. refusal u (Asks row) NO_ROW refl)
-setup_drops u NoRow = refusal u NoRow NO_ROW refl
+setup_drops u (Some (Configure value)) = λ _. empty_dropped OFF 0
+setup_drops u (Some (Asks row)) =
+    pick_all (λ (x : SetupOutcome). SetupDrops (Some (Asks row)) (answered u x)) (is_configured u.state) _ _
+    (λ _ b. row_drops u.state row (both_right _ _ b))
+    (λ _. refusal u (Some (Asks row)) NO_ROW refl)
+setup_drops u None = refusal u None NO_ROW refl
 
 -- a number that halts leaves a halted unit
 halt_drops : (u : Device) (r : Result) (l : Leaves) → LeftAs l u r → halting l ≡ true → Dropped (out_of r.unit.state)
@@ -115,7 +118,7 @@ unfolding is_break step soundly setup setup_outcome answered reset_by_bus made f
 break_drops u (setup_packet p) h = pick_all (SetupDrops (read_setup p.packet)) (is_sound u) _ _ (λ _. served) (λ _. refusal u (read_setup p.packet) UNSOUND refl)
   where
     served : SetupDrops (read_setup p.packet) (soundly u (setup_packet p))
-    served = decide_all (λ (x : SetupOutcome). SetupDrops (read_setup p.packet) (answered u x)) Denies (setup_rules (length p.packet) p.room) _
+    served = decide_all (λ (x : SetupOutcome). SetupDrops (read_setup p.packet) (answered u x)) Err (setup_rules (length p.packet) p.room) _
         (refusal u (read_setup p.packet) WRONG_SIZE refl, tt) (λ _. setup_drops u (read_setup p.packet))
 break_drops u (out_packet s) h = λ e. halt_drops u (step u (out_packet s)) (leaves (step u (out_packet s)).answer.verdict.number) (leaves_table u (out_packet s) (halt_number _ e)) e
 break_drops u (take_into room) h = λ e. absurd (false≢true e)

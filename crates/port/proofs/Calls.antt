@@ -11,9 +11,12 @@ use lib.ListN.{length, drop, length-replicate, length-drop}
 use lib.Dec.{T, eqb}
 use lib.Seq.{paste, paste-zero, length-paste}
 use borrow.Author.Tests.{ne_eqb, eqb-true, eqb-false, ltb-false}
+use Rattle.std.specs.Prelude.{Option, Some, None, IfSome}
+use Rattle.rules.specs.declared.refusal.Refusal.{Refusal}
+use Rattle.rules.specs.Answers.{number_of, refusing}
 use Rattle.rules.specs.Choice.{◌=ᵇ◌, pick, decide}
-use Rattle.rules.specs.Answers.{DONE, UNSOUND, UNCONFIGURED, WRONG_SIZE, HALTED, WAIT, NOT_IN_FOURS, SHORT_HEADER, BAD_TAG, UNKNOWN_MSGID, RESERVED}
-use Rattle.rules.specs.Answers.{WRONG_LENGTH, TOO_LONG, OUT_OF_TURN, NO_ROW, NOT_NOW, unchanged, out_halted, leaves, only}
+use Rattle.rules.specs.Answers.{DONE, UNSOUND, UNCONFIGURED, WRONG_SIZE, HALTED, WAIT}
+use Rattle.rules.specs.Answers.{NO_ROW, NOT_NOW, unchanged, out_halted, leaves, only}
 use Rattle.rules.proofs.Choice.{pick_all, decide_all, at_true, at_false, no_true, not_no, none_left, none_right, eq_neb, or_left, not_both, decide_lines}
 use Rattle.wire.specs.Bytes.{byte}
 use Rattle.rules.specs.Flags.{OFF}
@@ -26,7 +29,7 @@ use Rattle.wire.specs.declared.types.Row.TheVariants.{InitiateAbortBulkOut, Chec
 use Rattle.wire.specs.declared.types.Row.TheVariants.{InitiateClear, CheckClearStatus, GetCapabilities, IndicatorPulse, ReadStatusByte}
 use Rattle.wire.specs.declared.types.Row.TheVariants.{RenControl, GoToLocal, LocalLockout, ClearFeature, SetFeature, GetStatus}
 use Rattle.wire.specs.declared.types.Setup.{Setup}
-use Rattle.wire.specs.declared.types.Setup.TheVariants.{Configure, Asks, NoRow}
+use Rattle.wire.specs.declared.types.Setup.TheVariants.{Configure, Asks}
 use Rattle.wire.proofs.SetupLaws.{InRange, setup_ranged}
 use Rattle.port.specs.Parts.{STORE, FULL_SPEED, is_size, CLOSED, OWED, is_owed, is_open_out, is_open_in, has_reply}
 use Rattle.port.specs.Parts.{is_clear, port_of, out_of, in_of, interrupt_of, packet_size, is_configured, halted_out}
@@ -51,9 +54,9 @@ use Rattle.port.specs.declared.types.Split.TheVariants.{None, AbortOut, AbortIn,
 use Rattle.port.specs.declared.types.State.{State}
 use Rattle.port.specs.declared.types.Plan.{Plan}
 use Rattle.port.specs.declared.types.Outcome.{Outcome}
-use Rattle.port.specs.declared.types.Outcome.TheVariants.{Keep, Halt, Data, Accept}
-use Rattle.port.specs.declared.types.SetupOutcome.{SetupOutcome}
-use Rattle.port.specs.declared.types.SetupOutcome.TheVariants.{Denies}
+use Rattle.port.specs.declared.types.Outcome.TheVariants.{Nothing, Keep, Halt, Data, Accept}
+use Rattle.port.specs.Answer.{SetupOutcome}
+use Rattle.std.specs.Prelude.{Err}
 use Rattle.port.proofs.Soundness.{Sound, sound_of, sound_to}
 use Rattle.port.proofs.Ways.{Continues, Heads, outcome_ways}
 use Rattle.port.proofs.KeepsOut.{cases, fresh_sound, halted_sound, data_sound, accept_sound}
@@ -84,9 +87,13 @@ pub unplanned : (u : Device) (s : List ℕ) (n : ℕ) → with_message u s (plai
 unplanned u s n = ap (λ (m : List ℕ). record { unit = record { message = m; reply = u.reply; state = u.state }; answer = numbered n })
     (sym (paste-zero u.message (out_of u.state).message.held s))
 
-pub kept : (u : Device) (s : List ℕ) (n : ℕ) → with_message u s (planned u.state (Keep n)) ≡ refused u n
+pub kept : (u : Device) (s : List ℕ) (r : Refusal) → with_message u s (planned u.state (Keep r)) ≡ refused u (number_of r)
 unfolding planned
-kept u s n = unplanned u s n
+kept u s r = unplanned u s (number_of r)
+
+pub left_as_is : (u : Device) (s : List ℕ) → with_message u s (planned u.state Nothing) ≡ refused u DONE
+unfolding planned
+left_as_is u s = unplanned u s DONE
 
 pub unstored : (u : Device) (bytes : List ℕ) (n : ℕ) → with_reply u bytes (plain u.state (only n)) ≡ refused u n
 unstored u bytes n = ap (λ (m : List ℕ). record { unit = record { message = u.message; reply = m; state = u.state }; answer = numbered n }) (sym (paste-zero u.reply 0 bytes))
@@ -190,18 +197,18 @@ module _ (u : Device) (h : Sound u.state) where
   setup_way : (s : List ℕ) (room : ℕ) (c : Call) → kind_of c ≡ setups → Way u c (setup u s room)
   unfolding setup setup_outcome answered asked own leaves made
   setup_way s room c k =
-      decide_lines (λ (x : SetupOutcome). Way u c (answered u x)) Denies (setup_rules (length s) room) _
+      decide_lines (λ (x : SetupOutcome). Way u c (answered u x)) Err (setup_rules (length s) room) _
       (λ _. keeps u c WRONG_SIZE (rw k (inr (inl refl))) refl (λ e. omega arith), tt)
       (λ _. by (read_setup s) (setup_ranged s))
     where
       no_row : Way u c (refused u NO_ROW)
       no_row = keeps u c NO_ROW (rw k (inr (inr (inl refl)))) refl (λ e. omega arith)
 
-      by : (x : Setup) → InRange x → Way u c (answered u (asked u.state x))
-      by (Configure value) k = does _ refl (fresh_sound (port_of u.state).setting value h.port.size k) (λ _. zeroed_stored (port_of u.state).setting value)
-      by (Asks row) k = pick_all (λ (x : SetupOutcome). Way u c (answered u x)) (is_configured u.state) _ _
+      by : (x : Option Setup) → IfSome x InRange → Way u c (answered u (asked u.state x))
+      by (Some (Configure value)) k = does _ refl (fresh_sound (port_of u.state).setting value h.port.size k) (λ _. zeroed_stored (port_of u.state).setting value)
+      by (Some (Asks row)) k = pick_all (λ (x : SetupOutcome). Way u c (answered u x)) (is_configured u.state) _ _
           (λ _. does _ (row_done u.state row) (row_sound u.state h row k) (stays u _)) (λ _. no_row)
-      by NoRow k = no_row
+      by None k = no_row
 
   -- ** Bulk-OUT
 
@@ -221,9 +228,9 @@ module _ (u : Device) (h : Sound u.state) where
   }
 
   -- a plan that halts does nothing else
-  pub halted : (s : List ℕ) (n : ℕ) → with_message u s (planned u.state (Halt n)) ≡ refused (with_state u (halted_out u.state)) n
+  pub halted : (s : List ℕ) (r : Refusal) → with_message u s (planned u.state (Halt r)) ≡ refused (with_state u (halted_out u.state)) (number_of r)
   unfolding planned
-  halted s n = ap (λ (m : List ℕ). record { unit = record { message = m; reply = u.reply; state = halted_out u.state }; answer = numbered n })
+  halted s r = ap (λ (m : List ℕ). record { unit = record { message = m; reply = u.reply; state = halted_out u.state }; answer = numbered (number_of r) })
       (sym (paste-zero u.message (out_of u.state).message.held s))
 
   module _ (s : List ℕ) where
@@ -233,17 +240,13 @@ module _ (u : Device) (h : Sound u.state) where
     Q : Outcome → Type 0
     Q x = Way u packet (with_message u s (planned u.state x))
 
-    keep_way : (n : ℕ) → Way u packet (refused u n) → Q (Keep n)
-    unfolding Q
-    keep_way n w = subst (Way u packet) (sym (kept u s n)) w
-
-    stays_way : (n : ℕ) → T (elem n (bulk faults)) → leaves n ≡ unchanged → (n ≡ UNSOUND → ⊥) → Q (Keep n)
-    unfolding own
-    stays_way n o l e = keep_way n (keeps u packet n (one n (bulk faults) o) l e)
-
-    halt_way : (n : ℕ) → T (elem n (bulk faults)) → leaves n ≡ out_halted → (n ≡ UNSOUND → ⊥) → Q (Halt n)
+    stays_way : (r : Refusal) → let n = number_of r in T (elem n (bulk faults)) → leaves n ≡ unchanged → (n ≡ UNSOUND → ⊥) → Q (Keep r)
     unfolding Q own
-    halt_way n o l e = subst (Way u packet) (sym (halted s n)) (halts n (one n (bulk faults) o) l e h)
+    stays_way r o l e = let n = number_of r in subst (Way u packet) (sym (kept u s r)) (keeps u packet n (one n (bulk faults) o) l e)
+
+    halt_way : (r : Refusal) → let n = number_of r in T (elem n (bulk faults)) → leaves n ≡ out_halted → (n ≡ UNSOUND → ⊥) → Q (Halt r)
+    unfolding Q own
+    halt_way r o l e = let n = number_of r in subst (Way u packet) (sym (halted s r)) (halts n (one n (bulk faults) o) l e h)
 
     data_way : Continues u.state s → Q (Data (min (out_of u.state).transfer.left (length s)))
     unfolding Q planned
@@ -257,38 +260,38 @@ module _ (u : Device) (h : Sound u.state) where
         let room : (out_of u.state).message.held + size ≤ STORE = ltb-false _ _ c.none.1.0 in
         let long = c.reads.0 in
         does _ refl (accept_sound u.state s h (Message tag size end) c) (put_stored s HEADER (min size (length s - HEADER)) _ (λ _. omega arith) (omega arith))
-    head_way (Request tag size enabled term) c = does _ refl (accept_sound u.state s h (Request tag size enabled term) c) (put_stored s 0 0 _ (λ e. absurd (e refl)) (omega arith))
+    head_way (Request tag size term) c = does _ refl (accept_sound u.state s h (Request tag size term) c) (put_stored s 0 0 _ (λ e. absurd (e refl)) (omega arith))
     head_way (Trigger tag) c = does _ refl (accept_sound u.state s h (Trigger tag) c) (put_stored s 0 0 _ (λ e. absurd (e refl)) (omega arith))
 
     out_way : Way u packet (bulk_out u s)
     unfolding bulk_out out_plan Q own leaves
     out_way = outcome_ways u.state s Q (record {
       keeps = (
-        λ _. stays_way UNCONFIGURED tt refl (λ e. omega arith),
+        λ _. stays_way Refusal.Unconfigured tt refl (λ e. omega arith),
         (
-          λ _. stays_way WRONG_SIZE tt refl (λ e. omega arith),
+          λ _. stays_way Refusal.WrongSize tt refl (λ e. omega arith),
           (
-            λ _. stays_way HALTED tt refl (λ e. omega arith),
-            (λ _. stays_way WAIT tt refl (λ e. omega arith), tt),
+            λ _. stays_way Refusal.Halted tt refl (λ e. omega arith),
+            (λ _. stays_way Refusal.Wait tt refl (λ e. omega arith), tt),
           ),
         ),
       );
-      empty = λ _. keep_way DONE (does _ refl h (λ stored. stored));
+      empty = λ _. subst (Way u packet) (sym (left_as_is u s)) (does _ refl h (λ stored. stored));
       halts = λ _. (
-        halt_way NOT_IN_FOURS tt refl (λ e. omega arith),
+        halt_way Refusal.NotInFours tt refl (λ e. omega arith),
         (
-          halt_way SHORT_HEADER tt refl (λ e. omega arith),
+          halt_way Refusal.ShortHeader tt refl (λ e. omega arith),
           (
-            halt_way BAD_TAG tt refl (λ e. omega arith),
+            halt_way Refusal.BadTag tt refl (λ e. omega arith),
             (
-              halt_way UNKNOWN_MSGID tt refl (λ e. omega arith),
+              halt_way Refusal.UnknownMsgId tt refl (λ e. omega arith),
               (
-                halt_way RESERVED tt refl (λ e. omega arith),
+                halt_way Refusal.Reserved tt refl (λ e. omega arith),
                 (
-                  halt_way OUT_OF_TURN tt refl (λ e. omega arith),
+                  halt_way Refusal.OutOfTurn tt refl (λ e. omega arith),
                   (
-                    halt_way TOO_LONG tt refl (λ e. omega arith),
-                    (halt_way WRONG_LENGTH tt refl (λ e. omega arith), tt),
+                    halt_way Refusal.TooLong tt refl (λ e. omega arith),
+                    (halt_way Refusal.WrongLength tt refl (λ e. omega arith), tt),
                   ),
                 ),
               ),
@@ -369,7 +372,7 @@ module _ (u : Device) (h : Sound u.state) where
   unfolding offer offer_plan own leaves
   offer_way bytes =
       let c = quiet (offer_reply bytes) in
-      decide_lines P (λ n. plain u.state (only n)) (offer_rules u.state (length bytes)) _ (
+      decide_lines P (λ r. plain u.state (refusing r)) (offer_rules u.state (length bytes)) _ (
         λ _. k UNCONFIGURED (keeps u c UNCONFIGURED (one UNCONFIGURED (own_list c) tt) refl (λ e. omega arith)),
         (
           λ _. k WRONG_SIZE (keeps u c WRONG_SIZE (one WRONG_SIZE (own_list c) tt) refl (λ e. omega arith)),
@@ -453,10 +456,10 @@ leaves_table u c = by (step u c) (way u c)
 -- ** power-on, SET_CONFIGURATION and reset
 
 -- a packet of request type 0 is no other row's
-abbrev is_of_device : Setup → Type 0
-is_of_device (Configure value) = Unit {0}
-is_of_device (Asks row) = ⊥
-is_of_device NoRow = Unit {0}
+abbrev is_of_device : Option Setup → Type 0
+is_of_device (Some (Configure value)) = Unit {0}
+is_of_device (Some (Asks row)) = ⊥
+is_of_device None = Unit {0}
 
 of_device : (s : List ℕ) → byte s 0 ≡ 0 → is_of_device (read_setup s)
 unfolding read_setup to_device pick
@@ -471,14 +474,14 @@ module _ (P : Device → Type 0) (anew : (setting : Setting) (configured : ℕ) 
   unfolding step soundly setup setup_outcome answered asked
   configures_anew u p e =
       pick_all Anew (is_sound u) _ _
-      (λ _. decide_all (λ (x : SetupOutcome). Anew (answered u x)) Denies (setup_rules (length p.packet) p.room) _ (λ z. absurd (omega arith), tt)
+      (λ _. decide_all (λ (x : SetupOutcome). Anew (answered u x)) Err (setup_rules (length p.packet) p.room) _ (λ z. absurd (omega arith), tt)
       (λ _. by (read_setup p.packet) (of_device p.packet e)))
       (λ _ z. absurd (omega arith))
     where
-      by : (x : Setup) → is_of_device x → Anew (answered u (asked u.state x))
-      by (Configure value) k z = anew _ value
-      by (Asks row) k z = absurd k
-      by NoRow k z = absurd (omega arith)
+      by : (x : Option Setup) → is_of_device x → Anew (answered u (asked u.state x))
+      by (Some (Configure value)) k z = anew _ value
+      by (Some (Asks row)) k z = absurd k
+      by None k z = absurd (omega arith)
 
   pub resets_anew : (u : Device) → Anew (step u bus_reset)
   unfolding step soundly reset_by_bus

@@ -9,6 +9,7 @@ use mathlib.Core.Logic.{inl, inr, ⊎_elim}
 use native.Mathlib.Omega.{arith}
 use lib.ListN.{length}
 use borrow.Author.Tests.{ne_eqb, le-ltb}
+use Rattle.std.specs.Prelude.{Option, Some}
 use Rattle.rules.specs.Choice.{◌=ᵇ◌, no}
 use Rattle.rules.proofs.Choice.{decide_all, decide_none, at_true, at_false, pick_all, no_false, or_none, and_left, eq_neb}
 use Rattle.wire.specs.Setup.{SETUP, CONTROL, read_setup}
@@ -18,8 +19,8 @@ use Rattle.wire.specs.declared.types.Row.TheVariants.{InitiateClear, CheckClearS
 use Rattle.wire.specs.declared.types.Setup.{Setup}
 use Rattle.wire.specs.declared.types.Setup.TheVariants.{Asks}
 use Rattle.port.specs.Parts.{ASKED, is_open_in, is_owed, is_clear, in_of, packet_size, is_configured, with_in, with_in_halted, shut}
-use Rattle.port.specs.declared.types.SetupOutcome.{SetupOutcome}
-use Rattle.port.specs.declared.types.SetupOutcome.TheVariants.{Denies}
+use Rattle.port.specs.Answer.{SetupOutcome}
+use Rattle.std.specs.Prelude.{Err}
 use Rattle.port.specs.declared.types.Effect.TheVariants.{ClearsHalt}
 use Rattle.port.specs.Answer.{Said, refuse}
 use Rattle.port.specs.In.{Packet, in_rules, sends, fixed, started, gone, send, next_packet, poll}
@@ -36,15 +37,15 @@ use Rattle.port.proofs.KeepsOut.{cases}
 use Rattle.port.proofs.Opened.{computed}
 use Rattle.port.proofs.Calls.{step_sound, keeps_sound}
 
-read_initiate : read_setup INITIATE_CLEAR ≡ Asks InitiateClear
+read_initiate : read_setup INITIATE_CLEAR ≡ Some (Asks InitiateClear)
 unfolding computed
 read_initiate = refl
 
-read_check : read_setup CHECK_CLEAR_STATUS ≡ Asks CheckClearStatus
+read_check : read_setup CHECK_CLEAR_STATUS ≡ Some (Asks CheckClearStatus)
 unfolding computed
 read_check = refl
 
-read_feature : read_setup CLEAR_FEATURE_IN ≡ Asks (ClearFeature In)
+read_feature : read_setup CLEAR_FEATURE_IN ≡ Some (Asks (ClearFeature In))
 unfolding computed
 read_feature = refl
 
@@ -68,12 +69,12 @@ initiate_keeps st =
 
 module _ (u : Device) (control : ℕ) (h : Attends u control) where
   -- a sound, configured unit serves every row
-  row_served : (s : List ℕ) (row : Row) → length s ≡ SETUP → read_setup s ≡ Asks row → step u (setup_of s control) ≡ said u (reacted u.state (answer_row u.state row))
+  row_served : (s : List ℕ) (row : Row) → length s ≡ SETUP → read_setup s ≡ Some (Asks row) → step u (setup_of s control) ≡ said u (reacted u.state (answer_row u.state row))
   unfolding soundly setup setup_outcome answered asked
   row_served s row l e =
       step_sound u (setup_of s control) h.sound
       ∙ ap (answered u)
-      (decide_none Denies (setup_rules (length s) control) _ (or_none _ _ (eq_neb _ _ l) (le-ltb control CONTROL h.control_fits), tt)
+      (decide_none Err (setup_rules (length s) control) _ (or_none _ _ (eq_neb _ _ l) (le-ltb control CONTROL h.control_fits), tt)
       ∙ ap (asked u.state) e
       ∙ at_true (is_configured u.state) _ _ h.configured)
 
@@ -228,13 +229,13 @@ poll_survive st x room =
     decide_all (λ (r : Said). Kept st r.state) (refuse st) (in_rules st room) _ (refl, (refl, (refl, (refl, tt)))) (λ _. packet_survive st (packet_size st) x)
 
 -- a row that keeps them, asked for on any unit
-asked_survive : (s : List ℕ) (row : Row) → read_setup s ≡ Asks row → ((st : State) → Kept st (effected st (answer_row st row).effect))
+asked_survive : (s : List ℕ) (row : Row) → read_setup s ≡ Some (Asks row) → ((st : State) → Kept st (effected st (answer_row st row).effect))
     → (u : Device) (control : ℕ) → Kept u.state (step u (setup_of s control)).unit.state
 unfolding step soundly setup setup_outcome answered asked
 asked_survive s row e keeps u control =
     pick_all Q (is_sound u) _ _
-    (λ _. decide_all (λ (x : SetupOutcome). Q (answered u x)) Denies (setup_rules (length s) control) _ (refl, tt)
-    (λ _. subst (λ (x : Setup). Q (answered u (asked u.state x))) (sym e)
+    (λ _. decide_all (λ (x : SetupOutcome). Q (answered u x)) Err (setup_rules (length s) control) _ (refl, tt)
+    (λ _. subst (λ (x : Option Setup). Q (answered u (asked u.state x))) (sym e)
     (pick_all (λ (x : SetupOutcome). Q (answered u x)) (is_configured u.state) _ _ (λ _. keeps u.state) (λ _. refl))))
     (λ _. refl)
   where

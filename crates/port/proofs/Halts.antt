@@ -9,6 +9,7 @@ use mathlib.Core.Logic.{◌⊎◌, inl, inr, ⊎_elim}
 use native.Mathlib.Omega.{arith}
 use lib.ListN.{length}
 use borrow.Author.Tests.{eqb-true, eqb-false, eq-eqb, ne_eqb, lt-leb}
+use Rattle.std.specs.Prelude.{Option, Some}
 use Rattle.rules.specs.Choice.{◌≠ᵇ◌, ◌≤ᵇ◌, pick, decide}
 use Rattle.rules.specs.Answers.{DONE, SUCCESS, Leaves, out_halted, leaves}
 use Rattle.rules.specs.When.{Not}
@@ -45,8 +46,8 @@ use Rattle.port.specs.declared.types.Split.{Split}
 use Rattle.port.specs.declared.types.Split.TheVariants.{None, AbortOut, AbortIn, Clear}
 use Rattle.port.specs.declared.types.Effect.{Effect}
 use Rattle.port.specs.declared.types.Effect.TheVariants.{AbortsOut as aborts_out, AbortsIn as aborts_in}
-use Rattle.port.specs.declared.types.SetupOutcome.{SetupOutcome}
-use Rattle.port.specs.declared.types.SetupOutcome.TheVariants.{Denies}
+use Rattle.port.specs.Answer.{SetupOutcome}
+use Rattle.std.specs.Prelude.{Err}
 use Rattle.port.proofs.Soundness.{Sound, sound_of}
 use Rattle.port.proofs.KeepsOut.{halt_flag}
 use Rattle.port.proofs.Calls.{own_numbers, leaves_table, configures_anew, resets_anew}
@@ -63,16 +64,16 @@ served : (row : Row) (Then : Device → Device → List ℕ → Type 0) → ((u 
 unfolding step soundly setup setup_outcome answered asked
 served row Then k u p m =
     pick_all P (is_sound u) _ _
-    (λ e. decide_all (λ (x : SetupOutcome). P (answered u x)) Denies (setup_rules (length p.packet) p.room) _ (λ z. absurd (omega arith), tt)
+    (λ e. decide_all (λ (x : SetupOutcome). P (answered u x)) Err (setup_rules (length p.packet) p.room) _ (λ z. absurd (omega arith), tt)
     (λ _. by (sound_of _ e) (read_setup p.packet) (setup_read p.packet)))
     (λ _ z. absurd (omega arith))
   where
     P : Result → Type 0
     P r = r.answer.verdict.number ≡ 0 → Then u r.unit r.answer.bytes
 
-    by : Sound u.state → (x : Setup) → Right p.packet rows x → P (answered u (asked u.state x))
-    by h x (matched i n only) =
-        subst (λ (y : Setup). P (answered u (asked u.state y))) (only _ m)
+    by : Sound u.state → (x : Option Setup) → Right p.packet rows x → P (answered u (asked u.state x))
+    by h x (matched e n only) =
+        subst (λ (y : Option Setup). P (answered u (asked u.state y))) (ap Some (only _ m) ∙ sym e)
         (pick_all (λ (x : SetupOutcome). P (answered u x)) (is_configured u.state) _ _ (λ _ _. k u h) (λ _ z. absurd (omega arith)))
     by h x (unmatched e none) = absurd (none _ m)
 

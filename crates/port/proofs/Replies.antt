@@ -9,6 +9,8 @@ use native.Mathlib.Omega.{arith}
 use lib.ListN.{length, take, drop, length-take, length-drop, get_or-eq_default}
 use lib.Seq.{paste, take_at, take-length}
 use borrow.Author.Tests.{eq-eqb, ne_eqb, eqb-true, eqb-false}
+use Rattle.std.specs.Prelude.{Option, Some, None}
+use Rattle.rules.specs.Answers.{number_of, refusing}
 use Rattle.rules.specs.Choice.{◌=ᵇ◌, ◌<ᵇ◌, no, pick}
 use Rattle.rules.specs.Answers.{DONE, UNCONFIGURED, WRONG_SIZE, HALTED, WAIT, NO_ROW, NOT_NOW, only}
 use Rattle.rules.specs.When.{Not}
@@ -17,7 +19,7 @@ use Rattle.wire.specs.Bytes.{bytes4}
 use Rattle.rules.specs.Flags.{OFF}
 use Rattle.wire.specs.Header.{HEADER, in_header}
 use Rattle.wire.specs.Setup.{read_setup}
-use Rattle.wire.specs.When.{at, Commands, Requests, rows, Matches}
+use Rattle.wire.specs.When.{at, Commands, Requests, rows, Matches, RowOf}
 use Rattle.wire.specs.declared.types.Header.TheVariants.{Message, Request, Trigger}
 use Rattle.wire.specs.declared.types.Endpoint.TheVariants.{Out, In, Interrupt}
 use Rattle.wire.specs.declared.types.Row.{Row}
@@ -25,7 +27,7 @@ use Rattle.wire.specs.declared.types.Row.TheVariants.{InitiateAbortBulkOut, Chec
 use Rattle.wire.specs.declared.types.Row.TheVariants.{InitiateClear, CheckClearStatus, GetCapabilities}
 use Rattle.wire.specs.declared.types.Row.TheVariants.{IndicatorPulse, ReadStatusByte, RenControl, GoToLocal, LocalLockout, ClearFeature, SetFeature, GetStatus}
 use Rattle.wire.specs.declared.types.Setup.{Setup}
-use Rattle.wire.specs.declared.types.Setup.TheVariants.{Configure, Asks, NoRow}
+use Rattle.wire.specs.declared.types.Setup.TheVariants.{Configure, Asks}
 use Rattle.wire.proofs.When.{setup_law}
 use Rattle.port.specs.Parts.{STORE, is_size, CLOSED, ASKED, SENDING, OWED, on, is_open_out, is_open_in, is_owed, is_clear}
 use Rattle.port.specs.Parts.{has_reply, out_of, in_of, interrupt_of, packet_size, is_configured, closed_in, owed_in, fresh}
@@ -54,12 +56,12 @@ use Rattle.port.specs.declared.types.InTransfer.{InTransfer}
 use Rattle.port.specs.declared.types.BulkIn.{BulkIn}
 use Rattle.port.specs.declared.types.Split.{Split}
 use Rattle.port.specs.declared.types.Split.TheVariants.{None, AbortOut, AbortIn, Clear}
-use Rattle.port.specs.declared.types.SetupOutcome.{SetupOutcome}
-use Rattle.port.specs.declared.types.SetupOutcome.TheVariants.{Denies}
+use Rattle.port.specs.Answer.{SetupOutcome}
+use Rattle.std.specs.Prelude.{Err}
 use Rattle.port.specs.declared.types.State.{State}
 use Rattle.port.specs.declared.types.Plan.{Plan}
 use Rattle.port.specs.declared.types.Outcome.{Outcome}
-use Rattle.port.specs.declared.types.Outcome.TheVariants.{Keep, Halt, Data, Accept}
+use Rattle.port.specs.declared.types.Outcome.TheVariants.{Nothing, Keep, Halt, Data, Accept}
 use Rattle.port.proofs.Soundness.{Phase, is_closed, is_asked, is_sending, is_owed_lem, Sound, sound_of}
 use Rattle.port.proofs.Sizes.{size_of}
 use Rattle.port.proofs.Calls.{power_on_sound, power_on_stored, unstored, row_done, step_sound, keeps_sound, keeps_stored}
@@ -232,7 +234,7 @@ module _ (u : Device) (r : Reader) (stored : Stored u) (h : Sound u.state) (agre
     denied : (n : ℕ) → Not (n ≡ 0) → Goes (setup_packet p) (refused u n)
     denied n z = record { expects = tt; agrees = subst (Agreed P (seen u)) (sym (setup_unheard r p.packet (numbered n) z)) agreed }
 
-    served : (x : Setup) → Matches p.packet rows x → Comes (asks-for st x)
+    served : (x : Setup) → Matches p.packet rows x → Comes (asks-for st (Some x))
     unfolding asks-for answered made fresh
     served (Configure value) m = record {
       expects = tt;
@@ -242,13 +244,17 @@ module _ (u : Device) (r : Reader) (stored : Stored u) (h : Sound u.state) (agre
         pick_all Comes (is_configured st) _ _
         (λ _. record { expects = tt; agrees = subst (Agreed P _) (sym (setup_told r p.packet (answer_row st row).answer (Asks row) (row_done st row) m)) (row_goes row) })
         (λ _. denied NO_ROW (λ e. omega arith))
-    served NoRow m = denied NO_ROW (λ e. omega arith)
+
+    row_read : (x : Option Setup) → RowOf p.packet x → Comes (asks-for st x)
+    unfolding asks-for answered
+    row_read (Some x) m = served x m
+    row_read None _ = denied NO_ROW (λ e. omega arith)
 
     setup_goes : Goes (setup_packet p) (setup u p.packet p.room)
     unfolding setup setup_outcome answered asks-for
     setup_goes =
-        decide_all Comes Denies (setup_rules (length p.packet) p.room) _ (denied WRONG_SIZE (λ e. omega arith), tt)
-        (λ _. ⊎_elim (served (read_setup p.packet)) (λ k. subst (λ (x : Setup). Comes (asks-for st x)) (sym k.0) (denied NO_ROW (λ e. omega arith))) (setup_law p.packet))
+        decide_all Comes Err (setup_rules (length p.packet) p.room) _ (denied WRONG_SIZE (λ e. omega arith), tt)
+        (λ _. row_read (read_setup p.packet) (setup_law p.packet))
 
   -- ** polls
 
@@ -376,7 +382,7 @@ module _ (u : Device) (r : Reader) (stored : Stored u) (h : Sound u.state) (agre
   offer_goes : (bytes : List ℕ) → Goes (quiet (offer_reply bytes)) (offer u bytes)
   unfolding offer offer_plan offered
   offer_goes bytes =
-      decide_all (λ (x : Plan). Goes (quiet (offer_reply bytes)) (with_reply u bytes x)) (λ n. plain st (only n)) (offer_rules st (length bytes)) _
+      decide_all (λ (x : Plan). Goes (quiet (offer_reply bytes)) (with_reply u bytes x)) (λ k. plain st (refusing k)) (offer_rules st (length bytes)) _
       (waits UNCONFIGURED (λ e. omega arith), (waits WRONG_SIZE (λ e. omega arith), (waits NOT_NOW (λ e. omega arith), tt)))
       (λ n.
       let none = none_left _ _ n.1.1.0 in
@@ -420,10 +426,10 @@ module _ (u : Device) (r : Reader) (stored : Stored u) (h : Sound u.state) (agre
 
     packet_goes : (x : Outcome) → Came st s x → Goes (out_packet s) (with_message u s (planned st x))
     unfolding planned accepted broken
-    packet_goes (Keep n) (inl c) =
-        let none : at s 0 ≡ 0 = get_or-eq_default s 0 (let l = c.1 in omega arith) in plain_goes c.0 refl c.2 (λ e. omega arith) (λ e. omega arith)
-    packet_goes (Keep n) (inr c) = record { expects = λ e. absurd (let l = c.0 in omega arith); agrees = subst (Agreed P (seen u)) (sym (packet_kept r s n c.0 c.1)) agreed }
-    packet_goes (Halt n) c = record { expects = λ e. absurd (let l = c.0 in omega arith); agrees = subst (Agreed P _) (sym (packet_halted r s n c.0 c.1)) breaks }
+    packet_goes Nothing c =
+        let none : at s 0 ≡ 0 = get_or-eq_default s 0 (let l = c.0 in omega arith) in plain_goes refl refl c.1 (λ e. omega arith) (λ e. omega arith)
+    packet_goes (Keep k) c = record { expects = λ e. absurd (let l = c.0 in omega arith); agrees = subst (Agreed P (seen u)) (sym (packet_kept r s (number_of k) c.0 c.1)) agreed }
+    packet_goes (Halt k) c = record { expects = λ e. absurd (let l = c.0 in omega arith); agrees = subst (Agreed P _) (sym (packet_halted r s (number_of k) c.0 c.1)) breaks }
     packet_goes (Data count) c =
         let d = agreed.due in
         let n = c.0 in
@@ -436,7 +442,7 @@ module _ (u : Device) (r : Reader) (stored : Stored u) (h : Sound u.state) (agre
         let k = c.1 in
         accepts (size - count) refl (ap leaving (absorbed_left (opened (out_of st) tag size end) count))
         (due_command r.due s (agreed.due ∙ c.0) is ∙ omega arith) (no_request r.due s (inr (λ q. omega arith)))
-    packet_goes (Accept (Request tag size enabled term) count) c =
+    packet_goes (Accept (Request tag size term) count) c =
         let m = c.2 in
         let is = m.0 in
         let between : r.due ≡ 0 = agreed.due ∙ c.0 in
@@ -447,7 +453,7 @@ module _ (u : Device) (r : Reader) (stored : Stored u) (h : Sound u.state) (agre
             size = refl;
             due = due_other r.due s between (λ e. omega arith) ∙ sym c.0;
             unsent = whole (λ e. omega arith);
-            line = subst (Line P _ U) (sym (at_true _ _ _ (is_request r.due s between is))) (asks_same s tag size enabled term m);
+            line = subst (Line P _ U) (sym (at_true _ _ _ (is_request r.due s between is))) (asks_same s tag size term m);
           });
         }
     packet_goes (Accept (Trigger tag) count) c = let is = c.2.0 in plain_goes refl refl c.0 (λ e. omega arith) (λ e. omega arith)

@@ -4,16 +4,18 @@ use Prim.Native.Nat.{ℕ, ◌+◌, ◌-◌, ◌/◌, ◌%◌, ◌≤◌}
 use mathlib.Core.Path.{◌≡◌, refl, sym, ap, ◌∙◌, subst}
 use mathlib.Core.Bool.{Bool, true, false, false≢true}
 use mathlib.Core.List.{List, [], ◌∷◌}
-use mathlib.Core.Logic.{⊎_elim}
 use native.Mathlib.Omega.{arith}
 use lib.ListN.{length}
 use borrow.Author.Tests.{eq-eqb, ne_eqb, eqb-true}
+use Rattle.std.specs.Prelude.{Option, Some, None, IfSome}
+use Rattle.rules.specs.Answers.{refusing}
+use Rattle.rules.specs.declared.refusal.Refusal.TheVariants as Refusal
 use Rattle.rules.specs.Choice.{◌=ᵇ◌, ◌≠ᵇ◌, no, ◌and◌, pick, ◌⇒◌∣◌, first}
 use Rattle.rules.specs.When.{Not}
-use Rattle.rules.specs.Answers.{DONE, WRONG_SIZE, NO_ROW, only}
+use Rattle.rules.specs.Answers.{DONE, WRONG_SIZE, NO_ROW}
 use Rattle.rules.proofs.Choice.{Each, pick_all, decide_all, decide_lines, at_true, at_false, ne_neb, is_no, not_no}
 use Rattle.wire.specs.Setup.{read_setup}
-use Rattle.wire.specs.When.{at, two_at, Column, rows, Matches}
+use Rattle.wire.specs.When.{at, two_at, Column, rows, Matches, RowOf}
 use Rattle.wire.specs.declared.types.Endpoint.TheVariants.{Out, In, Interrupt}
 use Rattle.wire.specs.declared.types.Header.TheVariants.{Message, Request, Trigger}
 use Rattle.wire.specs.declared.types.Row.{Row}
@@ -21,7 +23,7 @@ use Rattle.wire.specs.declared.types.Row.TheVariants.{InitiateAbortBulkOut, Chec
 use Rattle.wire.specs.declared.types.Row.TheVariants.{InitiateClear, CheckClearStatus, GetCapabilities}
 use Rattle.wire.specs.declared.types.Row.TheVariants.{IndicatorPulse, ReadStatusByte, RenControl, GoToLocal, LocalLockout, ClearFeature, SetFeature, GetStatus}
 use Rattle.wire.specs.declared.types.Setup.{Setup}
-use Rattle.wire.specs.declared.types.Setup.TheVariants.{Configure, Asks, NoRow}
+use Rattle.wire.specs.declared.types.Setup.TheVariants.{Configure, Asks}
 use Rattle.wire.proofs.When.{setup_law}
 use Rattle.wire.proofs.SetupLaws.{Tagged, InRange, setup_ranged}
 use Rattle.port.specs.Parts.{is_size, on, is_open_out, is_open_in, is_owed, is_clear, out_of, in_of, interrupt_of}
@@ -49,9 +51,10 @@ use Rattle.port.specs.declared.types.Split.TheVariants.{None, AbortOut, AbortIn,
 use Rattle.port.specs.declared.types.State.{State}
 use Rattle.port.specs.declared.types.Plan.{Plan}
 use Rattle.port.specs.declared.types.Outcome.{Outcome}
-use Rattle.port.specs.declared.types.Outcome.TheVariants.{Keep, Halt, Data, Accept}
-use Rattle.port.specs.declared.types.SetupOutcome.{SetupOutcome}
-use Rattle.port.specs.declared.types.SetupOutcome.TheVariants.{Denies, Answers}
+use Rattle.port.specs.declared.types.Outcome.TheVariants.{Nothing, Keep, Halt, Data, Accept}
+use Rattle.port.specs.Answer.{SetupOutcome}
+use Rattle.std.specs.Prelude.{Err}
+use Rattle.std.specs.Prelude.{Ok}
 use Rattle.port.proofs.Calls.{step_sound, keeps_sound, power_on_sound, row_done}
 use Rattle.port.proofs.Readers.{find, ◌▹◌}
 
@@ -121,13 +124,11 @@ module _ (w : Watch) (bytes : List ℕ) where
   abbrev by_setup : Setup → Watch
   by_setup (Configure value) = unwatched
   by_setup (Asks row) = by_row row
-  by_setup NoRow = w
 
   -- READ_STATUS_BYTE, with this tag
   abbrev Reads : ℕ → Setup → Type 0
   Reads tag (Configure value) = ⊥
   Reads tag (Asks row) = row ≡ ReadStatusByte tag
-  Reads tag NoRow = ⊥
 
   abbrev by_bytes : ℕ → ℕ → ℕ → Watch
   by_bytes type request tag =
@@ -180,11 +181,12 @@ module _ (w : Watch) (bytes : List ℕ) where
 -- a plan leaves the endpoint as it was
 planned_stays : (st : State) (x : Outcome) → interrupt_of (planned st x).state ≡ interrupt_of st
 unfolding planned accepted
+planned_stays st Nothing = refl
 planned_stays st (Keep n) = refl
 planned_stays st (Halt n) = refl
 planned_stays st (Data count) = refl
 planned_stays st (Accept (Message tag size end) count) = refl
-planned_stays st (Accept (Request tag size enabled term) count) = refl
+planned_stays st (Accept (Request tag size term) count) = refl
 planned_stays st (Accept (Trigger tag) count) = refl
 
 module _ (u : Device) where
@@ -268,7 +270,7 @@ module _ (u : Device) where
     denied : (n : ℕ) → Not (n ≡ 0) → Goes c (refused u n)
     denied n z = refuses c n z (λ e. absurd (z e))
 
-    row_goes : (row : Row) → Matches p.packet rows (Asks row) → InRange (Asks row) → Goes c (answered u (Answers row))
+    row_goes : (row : Row) → Matches p.packet rows (Asks row) → InRange (Asks row) → Goes c (answered u (Ok (Asks row)))
     unfolding answered
     row_goes row m k =
         let a = (answer_row st row).answer in
@@ -276,23 +278,26 @@ module _ (u : Device) where
         goes_to c (with_state u (effected st (answer_row st row).effect)) a (row_done st row)
         (λ _ e. row_answers p.packet row (f.1 e)) (row_moves row (λ tag e. (subst Tagged e k).1) ∙ sym f.0)
 
-    served : (x : Setup) → Matches p.packet rows x → InRange x → Goes c (answered u (asked st x))
+    served : (x : Setup) → Matches p.packet rows x → InRange x → Goes c (answered u (asked st (Some x)))
     unfolding asked answered made fresh no ◌≠ᵇ◌ pick
     served (Configure value) m k =
         let f = matched w [] p.packet (Configure value) m in
         goes_to c _ (numbered DONE) refl (λ _ e. absurd (f.1 e)) (sym f.0)
     served (Asks row) m k =
-        pick_all (λ (x : SetupOutcome). Goes c (answered u x)) (is_configured st) (Answers row) (Denies NO_ROW)
+        pick_all (λ (x : SetupOutcome). Goes c (answered u x)) (is_configured st) (Ok (Asks row)) (Err Refusal.UnknownRow)
         (λ _. row_goes row m k)
         (λ _. denied NO_ROW (λ e. omega arith))
-    served NoRow m k = denied NO_ROW (λ e. omega arith)
+
+    row_read : (x : Option Setup) → RowOf p.packet x → IfSome x InRange → Goes c (answered u (asked st x))
+    unfolding asked answered
+    row_read (Some x) m k = served x m k
+    row_read None _ _ = denied NO_ROW (λ e. omega arith)
 
     setup_goes : Goes c (setup u p.packet p.room)
     unfolding setup setup_outcome answered asked
     setup_goes =
-        decide_all (λ (x : SetupOutcome). Goes c (answered u x)) Denies (setup_rules (length p.packet) p.room) _ (denied WRONG_SIZE (λ e. omega arith), tt)
-        (λ _. ⊎_elim (λ m. served (read_setup p.packet) m (setup_ranged p.packet))
-        (λ k. subst (λ (x : Setup). Goes c (answered u (asked st x))) (sym k.0) (denied NO_ROW (λ e. omega arith))) (setup_law p.packet))
+        decide_all (λ (x : SetupOutcome). Goes c (answered u x)) Err (setup_rules (length p.packet) p.room) _ (denied WRONG_SIZE (λ e. omega arith), tt)
+        (λ _. row_read (read_setup p.packet) (setup_law p.packet) (setup_ranged p.packet))
 
   -- ** the other calls
 
@@ -338,7 +343,7 @@ module _ (u : Device) where
   goes (quiet (interrupt_poll room)) = poll_goes room
   goes (quiet (offer_reply bytes)) =
       still _ (λ _. tt) (λ _. refl) _ _
-      (decide_all (λ (p : Plan). interrupt_of p.state ≡ i) (λ n. plain st (only n)) (offer_rules st (length bytes)) _ (refl, (refl, (refl, tt))) (λ _. refl))
+      (decide_all (λ (p : Plan). interrupt_of p.state ≡ i) (λ k. plain st (refusing k)) (offer_rules st (length bytes)) _ (refl, (refl, (refl, tt))) (λ _. refl))
   goes (quiet (set_status status)) =
       decide_all (λ (r : Said). Goes (quiet (set_status status)) (said u r)) (refuse st) (thermostat_rules st) _ (refuses _ 2 (λ e. omega arith) tt, tt)
       (λ _. goes_to (quiet (set_status status)) _ _ refl tt (held_seen i status))

@@ -6,19 +6,20 @@ use mathlib.Core.Bool.{true, false}
 use mathlib.Core.List.{List, [], ◌∷◌}
 use lib.ListN.{length}
 use borrow.Author.Tests.{ltb-false}
+use Rattle.rules.specs.declared.refusal.Refusal.{Refusal}
+use Rattle.rules.specs.declared.refusal.Refusal.TheVariants.{NotInFours, ShortHeader, BadTag, UnknownMsgId, Reserved, OutOfTurn, TooLong, WrongLength}
 use Rattle.rules.specs.Choice.{◌=ᵇ◌}
-use Rattle.rules.specs.Answers.{DONE, NOT_IN_FOURS, SHORT_HEADER, BAD_TAG, UNKNOWN_MSGID, RESERVED, WRONG_LENGTH, TOO_LONG, OUT_OF_TURN}
 use Rattle.rules.proofs.Choice.{NoneOf, Each, EachLine, pick_all, decide_all, decide_lines, neb_ne, neb_eq, not_no}
 use Rattle.wire.specs.Header.{HEADER, read_header}
 use Rattle.wire.specs.declared.types.Header.{Header}
-use Rattle.wire.specs.declared.types.Read.{Read}
-use Rattle.wire.specs.declared.types.Read.TheVariants.{Good}
+use Rattle.wire.specs.Header.{Read}
+use Rattle.std.specs.Prelude.{Ok}
 use Rattle.wire.proofs.Lawful.{Reads, header_ways}
 use Rattle.port.specs.Parts.{on, is_open_out, packet_size, out_of, is_configured}
 use Rattle.port.specs.Out.{more_rules, more, data_length, header_rules, header_says, out_rules, outcome}
 use Rattle.port.specs.declared.types.State.{State}
 use Rattle.port.specs.declared.types.Outcome.{Outcome}
-use Rattle.port.specs.declared.types.Outcome.TheVariants.{Keep, Halt, Data, Accept}
+use Rattle.port.specs.declared.types.Outcome.TheVariants.{Nothing, Keep, Halt, Data, Accept}
 
 -- none of 2 to 5 applies to a packet of n bytes
 pub record Passed (st : State) (n : ℕ) : Type 0 where
@@ -37,7 +38,7 @@ pub record Continues (st : State) (s : List ℕ) : Type 0 where
 pub record Heads (st : State) (s : List ℕ) (h : Header) : Type 0 where
   pub passed : Passed st (length s)
   pub between : (out_of st).transfer.left ≡ 0
-  pub reads : Reads s (Good h)
+  pub reads : Reads s (Ok h)
   pub none : NoneOf (header_rules st s h)
 
 pub passed : (st : State) (n : ℕ) → NoneOf (out_rules st n) → Passed st n
@@ -45,9 +46,9 @@ passed st n h = record { configured = not_no _ h.0; fits = ltb-false _ _ h.1.0; 
 
 -- Q of every number that keeps, of every fault, of data and of a header
 pub record Ways (st : State) (s : List ℕ) (Q : Outcome → Type 0) : Type 0 where
-  pub keeps : EachLine (λ (n : ℕ). Q (Keep n)) (out_rules st (length s))
-  pub empty : Passed st (length s) → Q (Keep DONE)
-  pub halts : Passed st (length s) → Each (λ (m : ℕ). Q (Halt m)) (NOT_IN_FOURS ∷ SHORT_HEADER ∷ BAD_TAG ∷ UNKNOWN_MSGID ∷ RESERVED ∷ OUT_OF_TURN ∷ TOO_LONG ∷ WRONG_LENGTH ∷ [])
+  pub keeps : EachLine (λ (r : Refusal). Q (Keep r)) (out_rules st (length s))
+  pub empty : Passed st (length s) → Q Nothing
+  pub halts : Passed st (length s) → Each (λ (r : Refusal). Q (Halt r)) (NotInFours ∷ ShortHeader ∷ BadTag ∷ UnknownMsgId ∷ Reserved ∷ OutOfTurn ∷ TooLong ∷ WrongLength ∷ [])
   pub continues : Continues st s → Q (Data (min (out_of st).transfer.left (length s)))
   pub heads : (h : Header) → Heads st s h → Q (Accept h (min (data_length h) (length s - HEADER)))
 
@@ -59,7 +60,7 @@ module _ (st : State) (s : List ℕ) (Q : Outcome → Type 0) (w : Ways st s Q) 
       decide_all Q Halt (more_rules (packet_size st) (out_of st).transfer.left s) _ (h.0, (h.1.1.1.1.1.1.1.0, tt))
       (λ n. w.continues (record { passed = p; is_open = e; none = n }))
 
-  good_ways : Passed st (length s) → (out_of st).transfer.left ≡ 0 → (h : Header) → Reads s (Good h) → Q (header_says st s (Good h))
+  good_ways : Passed st (length s) → (out_of st).transfer.left ≡ 0 → (h : Header) → Reads s (Ok h) → Q (header_says st s (Ok h))
   unfolding header_says
   good_ways p e h r =
       let f = w.halts p in

@@ -7,11 +7,11 @@ use mathlib.Core.Bool.{Bool, true, true≢false, false≢true}
 use mathlib.Core.List.{List, []}
 use mathlib.Core.Logic.{◌⊎◌, inl, inr, ⊎_elim}
 use native.Mathlib.Omega.{arith}
-use lib.Dec.{T}
 use lib.ListN.{length}
 use borrow.Author.Tests.{eqb-true, eqb-false}
+use Rattle.std.specs.Prelude.{Option, Some, None}
+use Rattle.rules.specs.declared.refusal.Refusal.TheVariants as Refusal
 use Rattle.rules.specs.Choice.{◌=ᵇ◌, ◌<ᵇ◌, no, pick, ◌⇒◌∣◌, decide}
-use Rattle.rules.specs.Answers.{DONE, WRONG_LENGTH, TOO_LONG, OUT_OF_TURN}
 use Rattle.rules.specs.When.{Not, ◌when◌∣◌, else_0}
 use Rattle.rules.proofs.Choice.{pick_all, no_true, no_false, neb_ne, neb_eq}
 use Rattle.rules.proofs.When.{Tells, in_words, equals, differs, is_less, negated, one_of, decided, both_of, By, through, line}
@@ -20,10 +20,10 @@ use Rattle.wire.specs.Setup.{read_setup}
 use Rattle.wire.specs.When.{Commands, Requests, Triggers, rows, Matches, Means}
 use Rattle.wire.specs.declared.types.Header.{Header}
 use Rattle.wire.specs.declared.types.Header.TheVariants.{Message, Request, Trigger}
-use Rattle.wire.specs.declared.types.Read.TheVariants.{Good}
+use Rattle.std.specs.Prelude.{Ok}
 use Rattle.wire.specs.declared.types.Setup.{Setup}
-use Rattle.wire.specs.declared.types.Setup.TheVariants.{Configure, Asks, NoRow}
-use Rattle.wire.proofs.When.{header_when, is_row, Right, matched, unmatched, setup_read}
+use Rattle.wire.specs.declared.types.Setup.TheVariants.{Configure, Asks}
+use Rattle.wire.proofs.When.{header_when, Right, matched, unmatched, setup_read}
 use Rattle.port.specs.Parts.{STORE, is_size, is_open_out, unfinished, has_reply, is_clear, port_of, out_of, in_of, packet_size, is_configured}
 use Rattle.port.specs.Out.{wrong_length, more, header_says, outcome, planned, accepted, out_plan}
 use Rattle.port.specs.In.{poll}
@@ -39,8 +39,8 @@ use Rattle.port.specs.When.{Configures, Served, given, given_power, RuleForEvery
 use Rattle.port.specs.declared.types.Split.{Split}
 use Rattle.port.specs.declared.types.Split.TheVariants.{None, AbortOut, AbortIn, Clear}
 use Rattle.port.specs.declared.types.Outcome.{Outcome}
-use Rattle.port.specs.declared.types.Outcome.TheVariants.{Keep, Halt}
-use Rattle.port.specs.declared.types.SetupOutcome.{SetupOutcome}
+use Rattle.port.specs.declared.types.Outcome.TheVariants.{Nothing, Halt}
+use Rattle.port.specs.Answer.{SetupOutcome}
 use Rattle.port.proofs.Soundness.{Sound, sound_of}
 use Rattle.port.proofs.KeepsOut.{out_held, out_ready}
 use Rattle.port.proofs.Sizes.{size_of}
@@ -105,7 +105,7 @@ module _ (u : Device) (s : List ℕ) (h : Sound u.state) where
       line _ (differs (length s % 4) 0) refl
       (λ _. line _ (wrong_length_lem _ (length s) (omega arith)) refl (λ _. record { told = refl }))
 
-  command_when : (tag size end : ℕ) → Means s (Message tag size end) → By outcome_number (λ _. behind) (header_says u.state s (Good (Message tag size end)))
+  command_when : (tag size end : ℕ) → Means s (Message tag size end) → By outcome_number (λ _. behind) (header_says u.state s (Ok (Message tag size end)))
   unfolding header_says planned accepted
   command_when tag size end m =
       let c = m.0 in
@@ -118,7 +118,7 @@ module _ (u : Device) (s : List ℕ) (h : Sound u.state) where
   -- a REQUEST or a TRIGGER: a packet of exactly 12
   plain_when : {t : Bool} (x : Outcome) → outcome_number x ≡ 0 → Requests s ⊎ Triggers s → Tells t (OutOfTurn u s)
       → By outcome_number (λ _. behind)
-      (decide Halt (t ⇒ OUT_OF_TURN ∣ STORE <ᵇ (out_of u.state).message.held + 0 ⇒ TOO_LONG ∣ wrong_length (packet_size u.state) (length s) HEADER ⇒ WRONG_LENGTH ∣ []) x)
+      (decide Halt (t ⇒ Refusal.OutOfTurn ∣ STORE <ᵇ (out_of u.state).message.held + 0 ⇒ Refusal.TooLong ∣ wrong_length (packet_size u.state) (length s) HEADER ⇒ Refusal.WrongLength ∣ []) x)
   unfolding planned
   plain_when x z k turn =
       let other : Not (Commands s) = λ c. apart s c k in
@@ -133,10 +133,10 @@ module _ (u : Device) (s : List ℕ) (h : Sound u.state) where
       refl
       (λ _. record { told = z })))
 
-  good_when : (x : Header) → Means s x → By outcome_number (λ _. behind) (header_says u.state s (Good x))
+  good_when : (x : Header) → Means s x → By outcome_number (λ _. behind) (header_says u.state s (Ok x))
   unfolding header_says planned accepted
   good_when (Message tag size end) m = command_when tag size end m
-  good_when (Request tag size enabled term) m =
+  good_when (Request tag size term) m =
       plain_when _ refl (inl m.0)
       (in_words (⊎_elim (λ o. inl (m.0, o)) (λ f. inr (inl m.0, f))) (⊎_elim (λ r. inl r.1) (λ r. inr r.1)) (one_of (differs (in_of u.state).transfer.phase 0) (unfinished_message u h)))
   good_when (Trigger tag) m =
@@ -148,7 +148,7 @@ module _ (u : Device) (s : List ℕ) (h : Sound u.state) where
   head_when some = through (header_says u.state s) (header_when s _ _ (λ n. refl) (λ x m. record { told = (good_when x m).told }) some)
 
   packet_when : By outcome_number (λ _. of_packet u s)
-      (pick (is_open_out (out_of u.state)) (more (packet_size u.state) (out_of u.state).transfer.left s) (pick (length s =ᵇ 0) (Keep DONE) (header_says u.state s (read_header s))))
+      (pick (is_open_out (out_of u.state)) (more (packet_size u.state) (out_of u.state).transfer.left s) (pick (length s =ᵇ 0) Nothing (header_says u.state s (read_header s))))
   unfolding planned
   packet_when =
       pick_all (By outcome_number _) _ _ _ (λ e. record { told = inl (neb_ne _ _ e, more_when.told) })
@@ -167,19 +167,21 @@ module _ (u : Device) (s : List ℕ) (h : Sound u.state) where
   unserved = 15 when Not (Served u s) ∣ else_0
 
   -- a row is served, but for its unit's being unconfigured
-  row_when : (x : Setup) → T (is_row x) → Matches s rows x → ((y : Setup) → Matches s rows y → y ≡ x) → By setup_number (λ _. unserved) (asked u.state x)
+  row_when : (x : Setup) → Matches s rows x → ((y : Setup) → Matches s rows y → y ≡ x) → By setup_number (λ _. unserved) (asked u.state (Some x))
   unfolding asked answered
-  row_when (Configure value) i m k = record { told = inr (λ n. n (record { asks = Configure value; matches = m; now = inr tt }), refl) }
-  row_when (Asks row) i m k =
+  row_when (Configure value) m k = record { told = inr (λ n. n (record { asks = Configure value; matches = m; now = inr tt }), refl) }
+  row_when (Asks row) m k =
       pick_all (By setup_number _) _ _ _
       (λ e. record { told = inr (λ n. n (record { asks = Asks row; matches = m; now = inl ((unconfigured u h).failed (no_false _ e)) }), row_done u.state row) })
       (λ e. record { told = inl (refl, λ served. ⊎_elim (λ n. n ((unconfigured u h).held (no_true _ e))) (λ c. subst Configures (k _ served.matches) c) served.now) })
-  row_when NoRow i m k = absurd i
 
-  asked_when : (x : Setup) → Right s rows x → By setup_number (λ _. unserved) (asked u.state x)
+  abbrev AskedWhen : Option Setup → Type 0
+  AskedWhen x = By setup_number (λ _. unserved) (asked u.state x)
+
+  asked_when : (x : Option Setup) → Right s rows x → AskedWhen x
   unfolding asked answered
-  asked_when x (matched i m k) = row_when x i m k
-  asked_when x (unmatched e k) = subst (λ (y : Setup). By setup_number (λ _. unserved) (asked u.state y)) (sym e) (record { told = inl (refl, λ served. k _ served.matches) })
+  asked_when x (matched e m k) = subst AskedWhen (sym e) (row_when _ m k)
+  asked_when x (unmatched e k) = subst AskedWhen (sym e) (record { told = inl (refl, λ served. k _ served.matches) })
 
 by_rules : (u : Device) (c : Call) → By number (λ _. given u c) (step u c)
 unfolding soundly quietly setup setup_outcome answered bulk_out out_plan outcome planned take_message taking bulk_in poll interrupt_in poll_interrupt offer offer_plan set_status_byte status_set

@@ -1,6 +1,6 @@
 -- "A break is any halt of Bulk-OUT, CLEAR_FEATURE on 0x01, SET_CONFIGURATION or bus reset": told from a call and its answer.
 -- Assumes nothing.
-use Rattle.std.specs.Prelude.{ℕ, Bool, true, false, List}
+use Rattle.std.specs.Prelude.{ℕ, Bool, true, false, List, Option, Some, None}
 use Rattle.rules.specs.Choice.{◌=ᵇ◌, ◌and◌}
 use Rattle.rules.specs.Answers.{DONE, SUCCESS, Leaves, as_ruled, unchanged, out_halted, leaves}
 use Rattle.wire.specs.Bytes.{byte}
@@ -12,7 +12,7 @@ use Rattle.wire.specs.declared.types.Row.TheVariants.{InitiateAbortBulkOut, Chec
 use Rattle.wire.specs.declared.types.Row.TheVariants.{InitiateClear, CheckClearStatus, GetCapabilities, IndicatorPulse, ReadStatusByte}
 use Rattle.wire.specs.declared.types.Row.TheVariants.{RenControl, GoToLocal, LocalLockout, ClearFeature, SetFeature, GetStatus}
 use Rattle.wire.specs.declared.types.Setup.{Setup}
-use Rattle.wire.specs.declared.types.Setup.TheVariants.{Configure, Asks, NoRow}
+use Rattle.wire.specs.declared.types.Setup.TheVariants.{Configure, Asks}
 use Rattle.port.specs.Answer.{Answer}
 use Rattle.port.specs.Step.{Call, setup_packet, out_packet, take_into, bus_reset, quiet}
 
@@ -44,10 +44,10 @@ breaks_row (ClearFeature endpoint) bytes = is_out endpoint
 breaks_row (SetFeature endpoint) bytes = is_out endpoint
 breaks_row (GetStatus endpoint) bytes = false
 
-abbrev pub breaks_setup : Setup → List ℕ → Bool
-breaks_setup (Configure value) bytes = true
-breaks_setup (Asks row) bytes = breaks_row row bytes
-breaks_setup NoRow bytes = false
+abbrev pub breaks_setup : Option Setup → List ℕ → Bool
+breaks_setup (Some (Configure value)) bytes = true
+breaks_setup (Some (Asks row)) bytes = breaks_row row bytes
+breaks_setup None bytes = false
 
 unfoldable pub is_break : Call → Answer → Bool
 is_break (setup_packet p) a = a.verdict.number =ᵇ DONE and breaks_setup (read_setup p.packet) a.bytes

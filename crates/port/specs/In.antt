@@ -2,7 +2,8 @@
 -- Assumes nothing.
 use Rattle.std.specs.Prelude.{ℕ, suc, ◌+◌, ◌-◌, min, Bool, List, [], ◌∷◌, ◌++◌, length, take}
 use Rattle.rules.specs.Choice.{◌=ᵇ◌, ◌<ᵇ◌, no, ◌or◌, ◌and◌, pick, ◌⇒◌∣◌, decide}
-use Rattle.rules.specs.Answers.{UNCONFIGURED, WRONG_SIZE, HALTED, WAIT}
+use Rattle.rules.specs.declared.refusal.Refusal.{Refusal}
+use Rattle.rules.specs.declared.refusal.Refusal.TheVariants.{Unconfigured, WrongSize, Halted, Wait}
 use Rattle.wire.specs.Bytes.{byte}
 use Rattle.wire.specs.Header.{D0, D1, in_header}
 use Rattle.port.specs.Parts.{ASKED, on, is_open_in, is_owed, has_reply, in_of, packet_size, is_configured, sending_in, carrying, with_in, shut}
@@ -78,12 +79,12 @@ next_packet p b unsent = pick (is_owed b) (record { side = shut b; bytes = [] })
 abbrev pub nothing_to_send : BulkIn → Bool
 nothing_to_send b = no (is_owed b) and (no (is_open_in b) or no (has_reply b))
 
-abbrev pub in_rules : State → ℕ → List (Bool × ℕ)
+abbrev pub in_rules : State → ℕ → List (Bool × Refusal)
 in_rules st room =
-    no (is_configured st) ⇒ UNCONFIGURED ∣
-    room <ᵇ packet_size st ⇒ WRONG_SIZE ∣
-    on (in_of st).halted ⇒ HALTED ∣
-    nothing_to_send (in_of st) ⇒ WAIT ∣ []
+    no (is_configured st) ⇒ Unconfigured ∣
+    room <ᵇ packet_size st ⇒ WrongSize ∣
+    on (in_of st).halted ⇒ Halted ∣
+    nothing_to_send (in_of st) ⇒ Wait ∣ []
 
 -- a poll into a buffer of `room` bytes
 abbrev pub sends : State → Packet → Said

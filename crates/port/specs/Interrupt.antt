@@ -2,7 +2,8 @@
 -- Assumes nothing.
 use Rattle.std.specs.Prelude.{ℕ, ◌+◌, ◌*◌, ◌/◌, ◌%◌, Bool, List, [], ◌∷◌}
 use Rattle.rules.specs.Choice.{◌=ᵇ◌, ◌≠ᵇ◌, ◌<ᵇ◌, no, ◌and◌, pick, ◌⇒◌∣◌, decide}
-use Rattle.rules.specs.Answers.{UNCONFIGURED, WRONG_SIZE, HALTED, WAIT}
+use Rattle.rules.specs.declared.refusal.Refusal.{Refusal}
+use Rattle.rules.specs.declared.refusal.Refusal.TheVariants.{Unconfigured, WrongSize, Halted, Wait}
 use Rattle.port.specs.Parts.{on, interrupt_of, is_configured, with_interrupt, with_status, with_waiting, no_packet}
 use Rattle.port.specs.Answer.{Said, says, refuse}
 use Rattle.port.specs.declared.types.Notify.{Notify}
@@ -67,12 +68,12 @@ status_queued i tag = with_waiting i (status_read tag i.status)
 abbrev pub NOTIFY : ℕ
 NOTIFY = 2
 
-abbrev pub interrupt_rules : State → ℕ → List (Bool × ℕ)
+abbrev pub interrupt_rules : State → ℕ → List (Bool × Refusal)
 interrupt_rules st room =
-    no (is_configured st) ⇒ UNCONFIGURED ∣
-    room <ᵇ NOTIFY ⇒ WRONG_SIZE ∣
-    on (interrupt_of st).halted ⇒ HALTED ∣
-    no (is_waiting (interrupt_of st)) ⇒ WAIT ∣ []
+    no (is_configured st) ⇒ Unconfigured ∣
+    room <ᵇ NOTIFY ⇒ WrongSize ∣
+    on (interrupt_of st).halted ⇒ Halted ∣
+    no (is_waiting (interrupt_of st)) ⇒ Wait ∣ []
 
 abbrev pub notify_bytes : Notify → List ℕ
 notify_bytes n = n.notify1 ∷ n.notify2 ∷ []

@@ -1,17 +1,16 @@
 -- A Bulk-OUT packet: what it comes to, and then what that leaves. A transfer is its header, its data bytes and their alignment; packets
 -- are the pieces that it comes in. 01, "Bulk-OUT".
 -- Assumes nothing.
-use Rattle.std.specs.Prelude.{ℕ, ◌+◌, ◌-◌, ◌≤◌, min, ◌≡◌, Bool, false, List, [], length}
+use Rattle.std.specs.Prelude.{ℕ, ◌+◌, ◌-◌, ◌≤◌, min, ◌≡◌, Bool, false, List, [], Option, Ok, Err, length}
 use Rattle.rules.specs.Choice.{◌=ᵇ◌, ◌<ᵇ◌, no, ◌or◌, ◌and◌, pick, ◌⇒◌∣◌, decide}
-use Rattle.rules.specs.Answers.{DONE, UNCONFIGURED, WRONG_SIZE, HALTED, WAIT, NOT_IN_FOURS, WRONG_LENGTH}
-use Rattle.rules.specs.Answers.{TOO_LONG, OUT_OF_TURN, TELLS_TRIGGER, only, done}
+use Rattle.rules.specs.Answers.{DONE, TELLS_TRIGGER, refusing, done}
+use Rattle.rules.specs.declared.refusal.Refusal.{Refusal}
+use Rattle.rules.specs.declared.refusal.Refusal.TheVariants.{Unconfigured, WrongSize, Halted, Wait, NotInFours, WrongLength, TooLong, OutOfTurn}
 use Rattle.rules.specs.declared.verdict.Verdict.{Verdict}
 use Rattle.rules.specs.Flags.{OFF}
-use Rattle.wire.specs.Header.{HEADER, not_in_fours, aligned, read_header}
+use Rattle.wire.specs.Header.{HEADER, Read, not_in_fours, aligned, read_header}
 use Rattle.wire.specs.declared.types.Header.{Header}
 use Rattle.wire.specs.declared.types.Header.TheVariants.{Message, Request, Trigger}
-use Rattle.wire.specs.declared.types.Read.{Read}
-use Rattle.wire.specs.declared.types.Read.TheVariants.{Good, Fault}
 use Rattle.port.specs.Parts.{STORE, on, is_open_out, unfinished, is_open_in, port_of, out_of, in_of, packet_size, is_configured}
 use Rattle.port.specs.Parts.{closed_out, asked_in, holding, with_out, with_in, with_remote, halted_out}
 use Rattle.port.specs.Remote.{headed, with_ren_on}
@@ -20,7 +19,7 @@ use Rattle.port.specs.declared.types.BulkIn.{BulkIn}
 use Rattle.port.specs.declared.types.State.{State}
 use Rattle.port.specs.declared.types.Plan.{Plan}
 use Rattle.port.specs.declared.types.Outcome.{Outcome}
-use Rattle.port.specs.declared.types.Outcome.TheVariants.{Keep, Halt, Data, Accept}
+use Rattle.port.specs.declared.types.Outcome.TheVariants.{Nothing, Keep, Halt, Data, Accept}
 
 -- ** the length of a transfer
 
@@ -31,8 +30,8 @@ wrong_length p n due = due <ᵇ n or (n <ᵇ due and n <ᵇ p)
 -- ** a continuing packet: "6, 11". What is left of its transfer is `left` data bytes and "0 to 3 alignment bytes up to a multiple of 4", which "may be
 -- anything" (02, request 2)
 
-abbrev pub more_rules : ℕ → ℕ → List ℕ → List (Bool × ℕ)
-more_rules p left s = not_in_fours s ⇒ NOT_IN_FOURS ∣ wrong_length p (length s) (aligned left) ⇒ WRONG_LENGTH ∣ []
+abbrev pub more_rules : ℕ → ℕ → List ℕ → List (Bool × Refusal)
+more_rules p left s = not_in_fours s ⇒ NotInFours ∣ wrong_length p (length s) (aligned left) ⇒ WrongLength ∣ []
 
 unfoldable pub more : ℕ → ℕ → List ℕ → Outcome
 more p left s = decide Halt (more_rules p left s) (Data (min left (length s)))
@@ -45,40 +44,40 @@ request_out_of_turn o b = is_open_in b or unfinished o
 
 abbrev pub out_of_turn : BulkOut → BulkIn → Header → Bool
 out_of_turn o b (Message tag size end) = false
-out_of_turn o b (Request tag size enabled term) = request_out_of_turn o b
+out_of_turn o b (Request tag size term) = request_out_of_turn o b
 out_of_turn o b (Trigger tag) = unfinished o
 
 -- the data bytes of a header's transfer
 abbrev pub data_length : Header → ℕ
 data_length (Message tag size end) = size
-data_length (Request tag size enabled term) = 0
+data_length (Request tag size term) = 0
 data_length (Trigger tag) = 0
 
-abbrev pub header_rules : State → List ℕ → Header → List (Bool × ℕ)
+abbrev pub header_rules : State → List ℕ → Header → List (Bool × Refusal)
 header_rules st s h =
-    out_of_turn (out_of st) (in_of st) h ⇒ OUT_OF_TURN ∣
-    STORE <ᵇ (out_of st).message.held + data_length h ⇒ TOO_LONG ∣
-    wrong_length (packet_size st) (length s) (HEADER + aligned (data_length h)) ⇒ WRONG_LENGTH ∣ []
+    out_of_turn (out_of st) (in_of st) h ⇒ OutOfTurn ∣
+    STORE <ᵇ (out_of st).message.held + data_length h ⇒ TooLong ∣
+    wrong_length (packet_size st) (length s) (HEADER + aligned (data_length h)) ⇒ WrongLength ∣ []
 
 unfoldable pub header_says : State → List ℕ → Read → Outcome
-header_says st s (Fault number) = Halt number
-header_says st s (Good h) = decide Halt (header_rules st s h) (Accept h (min (data_length h) (length s - HEADER)))
+header_says st s (Err r) = Halt r
+header_says st s (Ok h) = decide Halt (header_rules st s h) (Accept h (min (data_length h) (length s - HEADER)))
 
 -- ** what a packet comes to: "Bulk calls: 1, 2, 3, 4, 5", of which 1 is asked before every call (Step)
 
-abbrev pub out_rules : State → ℕ → List (Bool × ℕ)
+abbrev pub out_rules : State → ℕ → List (Bool × Refusal)
 out_rules st n =
-    no (is_configured st) ⇒ UNCONFIGURED ∣
-    packet_size st <ᵇ n ⇒ WRONG_SIZE ∣
-    on (out_of st).halted ⇒ HALTED ∣
-    on (out_of st).message.ready ⇒ WAIT ∣ []
+    no (is_configured st) ⇒ Unconfigured ∣
+    packet_size st <ᵇ n ⇒ WrongSize ∣
+    on (out_of st).halted ⇒ Halted ∣
+    on (out_of st).message.ready ⇒ Wait ∣ []
 
 -- "Between transfers an empty packet is answered 0 and changes nothing"
 unfoldable pub outcome : State → List ℕ → Outcome
 outcome st s =
     decide Keep (out_rules st (length s))
     (pick (is_open_out (out_of st)) (more (packet_size st) (out_of st).transfer.left s)
-    (pick (length s =ᵇ 0) (Keep DONE)
+    (pick (length s =ᵇ 0) Nothing
     (header_says st s (read_header s))))
 
 -- ** data bytes that come: `count` of those of the open transfer are here
@@ -103,9 +102,9 @@ abbrev pub opened : BulkOut → ℕ → ℕ → ℕ → BulkOut
 opened o tag size end = holding (tagged o tag) o.message (record { left = size; got = 0; end = end })
 
 -- "An accepted REQUEST opens the transfer." No reply is longer than its store, so that more than this is asked for need not be kept
-abbrev pub requested : BulkIn → ℕ → ℕ → ℕ → ℕ → BulkIn
-requested b tag size enabled term =
-    record { reply = b.reply; transfer = asked_in tag (min size STORE) enabled term; halted = b.halted; recent = tag }
+abbrev pub requested : BulkIn → ℕ → ℕ → Option ℕ → BulkIn
+requested b tag size term =
+    record { reply = b.reply; transfer = asked_in tag (min size STORE) term; halted = b.halted; recent = tag }
 
 -- ** what that leaves
 
@@ -121,14 +120,15 @@ accepted st (Message tag size end) count = record {
   from = HEADER;
   count = count;
 }
-accepted st (Request tag size enabled term) count =
-    plain (with_in (with_out st (tagged (out_of st) tag)) (requested (in_of st) tag size enabled term)) done
+accepted st (Request tag size term) count =
+    plain (with_in (with_out st (tagged (out_of st) tag)) (requested (in_of st) tag size term)) done
 accepted st (Trigger tag) count = plain (with_out st (tagged (out_of st) tag)) (record { number = DONE; tells = TELLS_TRIGGER })
 
--- "all unchanged"; "OUT halted"; data; a header
+-- "answered 0 and changes nothing"; "all unchanged"; "OUT halted"; data; a header
 unfoldable pub planned : State → Outcome → Plan
-planned st (Keep number) = plain st (only number)
-planned st (Halt number) = plain (halted_out st) (only number)
+planned st Nothing = plain st done
+planned st (Keep r) = plain st (refusing r)
+planned st (Halt r) = plain (halted_out st) (refusing r)
 planned st (Data count) = record { state = with_out st (absorbed (out_of st) count); verdict = done; from = 0; count = count }
 planned st (Accept h count) = accepted st h count
 
@@ -143,12 +143,13 @@ CanAbsorb o count =
 
 abbrev pub CanAccept : State → Header → ℕ → Type 0
 CanAccept st (Message tag size end) count = CanAbsorb (opened (out_of st) tag size end) count
-CanAccept st (Request tag size enabled term) count = Unit {0}
+CanAccept st (Request tag size term) count = Unit {0}
 CanAccept st (Trigger tag) count = Unit {0}
 
 abbrev pub Can : State → Outcome → Type 0
-Can st (Keep number) = Unit {0}
-Can st (Halt number) = Unit {0}
+Can st Nothing = Unit {0}
+Can st (Keep r) = Unit {0}
+Can st (Halt r) = Unit {0}
 Can st (Data count) = CanAbsorb (out_of st) count
 Can st (Accept h count) = CanAccept st h count
 

@@ -5,7 +5,7 @@ use Rattle.std.specs.Prelude.{ℕ, ◌+◌, ◌-◌, ◌%◌, ◌<◌, ◌≡◌
 use Rattle.rules.specs.When.{Not, ◌when◌∣◌, else_0}
 use Rattle.wire.specs.When.{four_at, Commands, Requests, Triggers, NotInFours, header_given, rows, Matches}
 use Rattle.wire.specs.declared.types.Setup.{Setup}
-use Rattle.wire.specs.declared.types.Setup.TheVariants.{Configure, Asks, NoRow}
+use Rattle.wire.specs.declared.types.Setup.TheVariants.{Configure, Asks}
 use Rattle.port.specs.Device.{Device, Result, is_sound}
 use Rattle.port.specs.Step.{Quiet, in_poll, interrupt_poll, offer_reply, set_status, front_panel, bus_suspend}
 use Rattle.port.specs.Step.{SetupPacket, Call, setup_packet, out_packet, take_into, bus_reset, quiet, Stepping}
@@ -151,7 +151,6 @@ given_interrupt u room =
 abbrev pub Configures : Setup → Type 0
 Configures (Configure value) = Unit {0}
 Configures (Asks row) = ⊥
-Configures NoRow = ⊥
 
 pub record Served (u : Device) (s : List ℕ) : Type 0 where
   pub asks : Setup

@@ -1,6 +1,8 @@
-// The parts of a unit but for its two stores, and what is decided over them. Flags are bytes, 0 or 1, as C has them in a unit.
+// The parts of a unit but for its two stores, and what is decided over them. Flags and phases are bytes, as C has them in a unit: one that
+// no unit has is unsound, and answered so, where a bool or an enum could not hold it.
+use rules::refusal::Refusal;
 use rules::verdict::Verdict;
-use wire::types::{Endpoint, Header, Row};
+use wire::types::{Endpoint, Header, Setup};
 
 // Bytes that a store holds.
 pub const STORE: u16 = 1024;
@@ -101,7 +103,7 @@ pub struct BulkIn {
     pub recent: u8,
 }
 
-// A packet of Interrupt-IN, by USB488's names for its two bytes. There is none where the first is 0.
+// A packet of Interrupt-IN, by USB488's names for its two bytes, which are bytes of the unit in C. There is none where the first is 0.
 #[repr(C)]
 #[derive(Clone, Copy)]
 pub struct Notify {
@@ -153,17 +155,18 @@ pub struct State {
     pub remote: Remote,
 }
 
-// What a Bulk-OUT packet comes to: a number with nothing changed, a number with Bulk-OUT halted, data bytes of the open transfer, or a
-// header with its first data bytes.
+// What a Bulk-OUT packet comes to: nothing, where it is empty and between transfers; a refusal with nothing changed; one with Bulk-OUT
+// halted; data bytes of the open transfer; or a header with its first data bytes.
 #[derive(Clone, Copy)]
 pub enum Outcome {
-    Keep { number: u8 },
-    Halt { number: u8 },
+    Nothing,
+    Keep { refusal: Refusal },
+    Halt { refusal: Refusal },
     Data { count: usize },
     Accept { header: Header, count: usize },
 }
 
-// What a call leaves that stores bytes: the state after it, the verdict, and its data: `count` bytes from `from` on.
+// What a call leaves that stores bytes: the state after it, the verdict, and its data: `count` bytes from `from` on, and 0 where none are.
 #[derive(Clone, Copy)]
 pub struct Plan {
     pub state: State,
@@ -180,13 +183,8 @@ pub struct Given {
     pub len: usize,
 }
 
-// What a setup packet comes to: a number with nothing changed, SET_CONFIGURATION, or a row that is answered.
-#[derive(Clone, Copy)]
-pub enum SetupOutcome {
-    Denies { number: u8 },
-    Renews { value: u8 },
-    Answers { row: Row },
-}
+// What a setup packet comes to: what it asks, where that is served.
+pub type SetupOutcome = Result<Setup, Refusal>;
 
 // What an answered row does to the state.
 #[derive(Clone, Copy)]

@@ -9,6 +9,9 @@ use native.Mathlib.Nat.{zero-add}
 use lib.ListN.{length, take, drop, length-drop}
 use lib.Seq.{paste, paste-zero, take-paste}
 use borrow.Author.Tests.{ltb-false}
+use Rattle.std.specs.Prelude.{Option, Some, None}
+use Rattle.rules.specs.declared.refusal.Refusal.{Refusal}
+use Rattle.rules.specs.Answers.{number_of, refusing}
 use Rattle.rules.specs.Choice.{◌=ᵇ◌, ◌<ᵇ◌, pick, decide}
 use Rattle.rules.specs.Answers.{DONE, only}
 use Rattle.rules.proofs.Choice.{pick_all, pick_both, decide_both, none_right}
@@ -18,14 +21,14 @@ use Rattle.wire.specs.Setup.{read_setup}
 use Rattle.wire.specs.declared.types.Endpoint.TheVariants.{Out, In, Interrupt}
 use Rattle.wire.specs.declared.types.Header.{Header}
 use Rattle.wire.specs.declared.types.Header.TheVariants.{Message, Request, Trigger}
-use Rattle.wire.specs.declared.types.Read.{Read}
-use Rattle.wire.specs.declared.types.Read.TheVariants.{Good, Fault}
+use Rattle.wire.specs.Header.{Read}
+use Rattle.std.specs.Prelude.{Ok, Err}
 use Rattle.wire.specs.declared.types.Row.{Row}
 use Rattle.wire.specs.declared.types.Row.TheVariants.{InitiateAbortBulkOut, CheckAbortBulkOutStatus, InitiateAbortBulkIn, CheckAbortBulkInStatus}
 use Rattle.wire.specs.declared.types.Row.TheVariants.{InitiateClear, CheckClearStatus, GetCapabilities, IndicatorPulse, ReadStatusByte}
 use Rattle.wire.specs.declared.types.Row.TheVariants.{RenControl, GoToLocal, LocalLockout, ClearFeature, SetFeature, GetStatus}
 use Rattle.wire.specs.declared.types.Setup.{Setup}
-use Rattle.wire.specs.declared.types.Setup.TheVariants.{Configure, Asks, NoRow}
+use Rattle.wire.specs.declared.types.Setup.TheVariants.{Configure, Asks}
 use Rattle.port.specs.Parts.{STORE, ASKED, on, is_open_out, is_open_in, is_owed, packet_size, out_of, in_of, with_in, carrying, broken, shut}
 use Rattle.port.specs.Remote.{local_now}
 use Rattle.port.specs.Answer.{Answer, Said, numbered, refuse}
@@ -51,16 +54,17 @@ use Rattle.port.specs.declared.types.Split.{Split}
 use Rattle.port.specs.declared.types.Split.TheVariants.{None, AbortOut, AbortIn, Clear}
 use Rattle.port.specs.declared.types.State.{State}
 use Rattle.port.specs.declared.types.Outcome.{Outcome}
-use Rattle.port.specs.declared.types.Outcome.TheVariants.{Keep, Halt, Data, Accept}
-use Rattle.port.specs.declared.types.SetupOutcome.{SetupOutcome}
-use Rattle.port.specs.declared.types.SetupOutcome.TheVariants.{Denies, Renews, Answers}
+use Rattle.port.specs.declared.types.Outcome.TheVariants.{Nothing, Keep, Halt, Data, Accept}
+use Rattle.port.specs.Answer.{SetupOutcome}
+use Rattle.std.specs.Prelude.{Err}
+use Rattle.std.specs.Prelude.{Ok}
 use Rattle.port.specs.declared.types.Effect.{Effect}
 use Rattle.port.specs.declared.types.Effect.TheVariants.{Stays, AbortsOut, AbortsIn, Clears, EndsSplit, SetsRen}
 use Rattle.port.specs.declared.types.Effect.TheVariants.{GoesToLocal, LocksOut, ClearsHalt, SetsHalt, Queues}
 use Rattle.port.proofs.Soundness.{Sound, sound_of, sound_to}
 use Rattle.port.proofs.Ways.{outcome_ways}
 use Rattle.port.proofs.KeepsOut.{out_held}
-use Rattle.port.proofs.Calls.{kept, unstored, halted, step_sound}
+use Rattle.port.proofs.Calls.{kept, left_as_is, unstored, halted, step_sound}
 use Rattle.port.proofs.Alive.{held_alive, unsent_alive, alive_sound, alive_stored, Alike, alike, twin, same_message, same_reply}
 
 -- the same answer, and units that differ in the place of the reply and in dead bytes alone
@@ -103,8 +107,8 @@ module _ (u : Device) (stored : Stored u) (h : Sound u.state) where
   abbrev Saids : Said → Said → Type 0
   Saids r q = Same (said u r) (said w q)
 
-  behind : (rs : List (Bool × ℕ)) (r q : Said) → Saids r q → Saids (decide (refuse u.state) rs r) (decide (refuse w.state) rs q)
-  behind rs r q s = decide_both Saids (refuse u.state) (refuse w.state) rs r q (λ n. kept_both (numbered n)) (λ _. s)
+  behind : (rs : List (Bool × Refusal)) (r q : Said) → Saids r q → Saids (decide (refuse u.state) rs r) (decide (refuse w.state) rs q)
+  behind rs r q s = decide_both Saids (refuse u.state) (refuse w.state) rs r q (λ k. kept_both (numbered (number_of k))) (λ _. s)
 
   -- ** setup packets
 
@@ -163,45 +167,48 @@ module _ (u : Device) (stored : Stored u) (h : Sound u.state) where
 
   answer_agrees : (x : SetupOutcome) → Same (answered u x) (answered w x)
   unfolding answered alive live
-  answer_agrees (Denies n) = kept_both _
-  answer_agrees (Renews value) = (refl, refl, refl, refl)
-  answer_agrees (Answers row) = subst (λ (r : Reaction). Same (answered u (Answers row)) (said w (reacted w.state r))) (reacts_alike row) (effect_agrees _ (answer_row u.state row).effect)
+  answer_agrees (Err n) = kept_both _
+  answer_agrees (Ok (Configure value)) = (refl, refl, refl, refl)
+  answer_agrees (Ok (Asks row)) = subst (λ (r : Reaction). Same (answered u (Ok (Asks row))) (said w (reacted w.state r))) (reacts_alike row) (effect_agrees _ (answer_row u.state row).effect)
 
-  asked_alike : (x : Setup) → asked u.state x ≡ asked w.state x
+  asked_alike : (x : Option Setup) → asked u.state x ≡ asked w.state x
   unfolding asked alive live
-  asked_alike (Configure value) = refl
-  asked_alike (Asks row) = refl
-  asked_alike NoRow = refl
+  asked_alike (Some (Configure value)) = refl
+  asked_alike (Some (Asks row)) = refl
+  asked_alike None = refl
 
   setup_agrees : (s : List ℕ) (room : ℕ) → Same (setup u s room) (setup w s room)
   unfolding setup setup_outcome
-  setup_agrees s room = subst (λ (x : SetupOutcome). Same (setup u s room) (answered w (decide Denies (setup_rules (length s) room) x))) (asked_alike (read_setup s))
+  setup_agrees s room = subst (λ (x : SetupOutcome). Same (setup u s room) (answered w (decide Err (setup_rules (length s) room) x))) (asked_alike (read_setup s))
       (answer_agrees (setup_outcome u.state s room))
 
   -- ** Bulk-OUT
 
   header_agrees : (s : List ℕ) (r : Read) → header_says u.state s r ≡ header_says w.state s r
   unfolding header_says alive live
-  header_agrees s (Fault numbered) = refl
-  header_agrees s (Good (Message tag size end)) = refl
-  header_agrees s (Good (Request tag size enabled term)) = refl
-  header_agrees s (Good (Trigger tag)) = refl
+  header_agrees s (Err numbered) = refl
+  header_agrees s (Ok (Message tag size end)) = refl
+  header_agrees s (Ok (Request tag size term)) = refl
+  header_agrees s (Ok (Trigger tag)) = refl
 
   outcome_agrees : (s : List ℕ) → outcome u.state s ≡ outcome w.state s
   unfolding outcome alive live
   outcome_agrees s =
       ap (λ (z : Outcome). decide Keep (out_rules u.state (length s))
-      (pick (is_open_out (out_of u.state)) (more (packet_size u.state) (out_of u.state).transfer.left s) (pick (length s =ᵇ 0) (Keep DONE) z))) (header_agrees s (read_header s))
+      (pick (is_open_out (out_of u.state)) (more (packet_size u.state) (out_of u.state).transfer.left s) (pick (length s =ᵇ 0) Nothing z))) (header_agrees s (read_header s))
 
   abbrev Outs : List ℕ → Outcome → Type 0
   Outs s x = Same (with_message u s (planned u.state x)) (with_message w s (planned w.state x))
 
-  keep_agrees : (s : List ℕ) (n : ℕ) → Outs s (Keep n)
-  keep_agrees s n = along (kept u s n) (kept w s n) (kept_both _)
+  nothing_agrees : (s : List ℕ) → Outs s Nothing
+  nothing_agrees s = along (left_as_is u s) (left_as_is w s) (kept_both _)
 
-  halt_agrees : (s : List ℕ) (n : ℕ) → Outs s (Halt n)
+  keep_agrees : (s : List ℕ) (k : Refusal) → Outs s (Keep k)
+  keep_agrees s k = along (kept u s k) (kept w s k) (kept_both _)
+
+  halt_agrees : (s : List ℕ) (k : Refusal) → Outs s (Halt k)
   unfolding effected
-  halt_agrees s n = along (halted u h s n) (halted w (alive_sound u stored h) s n) (effect_agrees (numbered n) (SetsHalt Out))
+  halt_agrees s k = along (halted u h s k) (halted w (alive_sound u stored h) s k) (effect_agrees (numbered (number_of k)) (SetsHalt Out))
 
   -- data put behind what is held, of the open transfer or of one that a header opens
   put_message : (o : BulkOut) (d : List ℕ) (count : ℕ) → o.message ≡ (out_of u.state).message → count ≤ length d
@@ -231,7 +238,7 @@ module _ (u : Device) (stored : Stored u) (h : Sound u.state) where
   head_agrees : (s : List ℕ) (x : Header) (count : ℕ) → count ≤ length (drop HEADER s) → Outs s (Accept x count)
   unfolding planned accepted alive live
   head_agrees s (Message tag size end) count e = (refl, refl, put_message (opened (out_of u.state) tag size end) (drop HEADER s) count refl e, whole_reply)
-  head_agrees s (Request tag size enabled term) count e = (refl, refl, no_message_lem s, whole_reply)
+  head_agrees s (Request tag size term) count e = (refl, refl, no_message_lem s, whole_reply)
   head_agrees s (Trigger tag) count e = (refl, refl, no_message_lem s, whole_reply)
 
   out_agrees : (s : List ℕ) → Same (bulk_out u s) (bulk_out w s)
@@ -240,7 +247,7 @@ module _ (u : Device) (stored : Stored u) (h : Sound u.state) where
       subst (λ (x : Outcome). Same (bulk_out u s) (with_message w s (planned w.state x))) (outcome_agrees s)
       (outcome_ways u.state s (Outs s) (record {
         keeps = (λ _. keep_agrees s _, (λ _. keep_agrees s _, (λ _. keep_agrees s _, (λ _. keep_agrees s _, tt))));
-        empty = λ _. keep_agrees s DONE;
+        empty = λ _. nothing_agrees s;
         halts = λ _. (halt_agrees s _, (halt_agrees s _, (halt_agrees s _, (halt_agrees s _, (halt_agrees s _, (halt_agrees s _, (halt_agrees s _, (halt_agrees s _, tt))))))));
         continues = λ _. data_agrees s _ (omega arith);
         heads = λ x _. head_agrees s x _ (let l = length-drop HEADER s in omega arith);
@@ -294,8 +301,8 @@ module _ (u : Device) (stored : Stored u) (h : Sound u.state) where
   offer_agrees : (bytes : List ℕ) → Same (offer u bytes) (offer w bytes)
   unfolding offer offer_plan offered alive live
   offer_agrees bytes =
-      decide_both (λ (p q : Plan). Same (with_reply u bytes p) (with_reply w bytes q)) (λ n. plain u.state (only n)) (λ n. plain w.state (only n)) (offer_rules u.state (length bytes)) _ _
-      (λ n. along (unstored u bytes n) (unstored w bytes n) (kept_both _))
+      decide_both (λ (p q : Plan). Same (with_reply u bytes p) (with_reply w bytes q)) (λ k. plain u.state (refusing k)) (λ k. plain w.state (refusing k)) (offer_rules u.state (length bytes)) _ _
+      (λ k. along (unstored u bytes (number_of k)) (unstored w bytes (number_of k)) (kept_both _))
       (λ n.
       let fits : length bytes ≤ STORE = ltb-false _ _ (none_right (length bytes =ᵇ 0) _ n.1.0) in
       (refl, refl, whole_message, front u.reply bytes (let l = stored.reply in omega arith) ∙ sym (front w.reply bytes (let l = (alive_stored u stored h).reply in omega arith))))

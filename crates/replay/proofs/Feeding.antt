@@ -1,92 +1,93 @@
 -- The laws of a feed: a line that is played leaves fewer to play, and answers that are written out move nothing else.
 -- Assumes nothing.
-use Prim.Native.Nat.{ℕ, ◌+◌, ◌≤◌, ◌<◌}
-use Prim.Native.Char.{code}
-use mathlib.Core.Path.{◌≡◌, refl, sym, ap, ◌∙◌}
+use Prim.Native.Nat.{ℕ, suc, ◌+◌, ◌-◌, ◌≤◌, ◌<◌}
+use mathlib.Core.Path.{◌≡◌, sym, ap, ◌∙◌}
 use mathlib.Core.Bool.{true, false}
-use mathlib.Core.List.{List}
-use lib.ListN.{length, drop}
-use lib.Seq.{slice}
-use Rattle.rules.proofs.Choice.{at_true, at_false}
+use mathlib.Core.List.{List, []}
+use native.Mathlib.Omega.{arith}
+use native.Mathlib.Numerals.{add-one}
+use lib.ListN.{length, take, drop, length-drop}
+use lib.Seq.{take_all, drop-drop}
+use Rattle.rules.proofs.Choice.{at_true}
 use Rattle.port.specs.Device.{Device}
 use Rattle.text_put.specs.Text.{Page}
-use Rattle.text_words.specs.Text.{is_byte, seek}
+use Rattle.text_words.specs.Text.{place, before, since}
 use Rattle.text_words.specs.Cut.{Cut, cut}
-use Rattle.text_words.proofs.Cut.{next_line, last_line}
+use Rattle.text_words.proofs.Cut.{newline, line_then, first_line, no_line}
 use Rattle.unit.specs.Promise.{device_of}
+use Rattle.unit.specs.declared.types.Unit.{Unit}
 use Rattle.replay.specs.Played.{Puts}
-use Rattle.replay.specs.Feed.{Standing, standing, ended, answered_line, Ends, emptied, written_out, is_nearly_full}
-use Rattle.replay.specs.Feed.{Passes, after_lines, Plays, PlaysOut}
+use Rattle.replay.specs.Feed.{Standing, standing, ended, answered_line, Ends, Writes, written_out, is_nearly_full, with_room}
+use Rattle.replay.specs.Feed.{Passes, after_lines, Plays}
 use Rattle.replay.specs.declared.feed.Feed.{Feed}
-use Rattle.replay.specs.declared.played.Played.{Played}
 
 -- ** a line
 
-pub stands_answered : (s : Standing) (line after : List ℕ) (p : Played) → Puts (ended s.skipping s.unit line) s.output after p
-    → record { unit = device_of p.unit; skipping = false; output = (after, p.at) } ≡ answered_line s line
+pub stands_answered : (s : Standing) (line : List ℕ) (q : Page) (r : Unit) → Puts (ended s.skipping s.unit line) s.output q r
+    → record { unit = device_of r; skipping = false; output = q } ≡ answered_line s line
 unfolding answered_line
-stands_answered s line after p h =
-    ap (λ (u : Device). record { unit = u; skipping = false; output = (after, p.at) }) h.unit
+stands_answered s line q r h =
+    ap (λ (u : Device). record { unit = u; skipping = false; output = q }) h.unit
     ∙ ap (λ (o : Page). record { unit = (ended s.skipping s.unit line).unit; skipping = false; output = o }) h.text
 
--- a line with room for its answer, and one before which the answers were written out
-module _ (f : Feed) (line before after : List ℕ) (r : Feed) where
-  pub passes_with_room : is_nearly_full before f.filled ≡ false → Ends f line before after r → Passes f line before after r
-  passes_with_room n e = record {
-    stands = e.stands ∙ ap (λ (s : Standing). answered_line s line) (sym (at_false _ _ _ n));
-    held = ap (λ (x : Feed). x.held) e.rest;
-  }
+-- the answers were written out
+stands_written : {f w : Feed} {before after : Page} → Writes f before after w → standing w after ≡ written_out (standing f before)
+stands_written {f = f} {w = w} {after = after} h = ap (λ (x : Feed). standing x after) h.rest ∙ ap (λ (p : Page). standing f p) h.output
 
-  pub passes_written : is_nearly_full before f.filled ≡ true → (w : Feed) → w ≡ emptied f w.going → Ends w line before after r → Passes f line before after r
-  passes_written n w k e = record {
-    stands = e.stands ∙ ap (λ (x : Feed). answered_line (standing x before) line) k ∙ ap (λ (s : Standing). answered_line s line) (sym (at_true _ _ _ n));
-    held = ap (λ (x : Feed). x.held) e.rest ∙ ap (λ (x : Feed). x.held) k;
-  }
+-- before a line the answers are written out where there is no room for one more
+pub made_room : (f w : Feed) (before after : Page) → is_nearly_full before ≡ true → Writes f before after w → standing w after ≡ with_room (standing f before)
+made_room f w before after n h = stands_written h ∙ sym (at_true _ _ _ n)
 
--- the last line, with its answer written out
-pub ends_out : {f a w : Feed} {line before after : List ℕ} → w ≡ emptied a w.going → Ends f line before after a
-    → standing w after ≡ written_out (answered_line (standing f before) line)
-ends_out {after = after} e h = ap (λ (x : Feed). standing x after) e ∙ ap written_out h.stands
+-- and then it is answered
+pub passed : {f w r : Feed} {line : List ℕ} {before free after : Page} → standing w free ≡ with_room (standing f before) → w.held ≡ f.held → Ends w line free after r
+    → Passes f line before after r
+passed {line = line} e k h = record {
+  stands = h.stands ∙ ap (λ (s : Standing). answered_line s line) e;
+  held = ap (λ (x : Feed). x.held) h.rest ∙ k;
+}
 
 -- ** all lines
 
--- from `from` on the same is to be played as from the start, by a feed that has played what stands before it
-pub record ToPlay (f₀ f : Feed) (text out₀ out : List ℕ) (from : ℕ) : Type 0 where
-  pub stands : after_lines (standing f out) (cut (drop from text)).lines ≡ after_lines (standing f₀ out₀) (cut text).lines
+-- of what is left the same is to be played as of all, by a feed that has played what stands before it
+pub record ToPlay (f₀ f : Feed) (text : List ℕ) (p₀ p : Page) (left : List ℕ) : Type 0 where
+  pub stands : after_lines (standing f p) (cut left).lines ≡ after_lines (standing f₀ p₀) (cut text).lines
   pub held : f.held ≡ f₀.held
-  pub rest : (cut (drop from text)).rest ≡ (cut text).rest
+  pub rest : (cut left).rest ≡ (cut text).rest
+  pub fits : length left ≤ length text
+  pub place : drop (length text - length left) text ≡ left
 
-pub all_to_play : (f : Feed) (text out : List ℕ) → ToPlay f f text out out 0
-all_to_play f text out = record { stands = refl; held = refl; rest = refl }
-
-module _ (f₀ f : Feed) (text out₀ out : List ℕ) (from end : ℕ) (found : end ≡ seek (is_byte (code "\n")) text from) (l : ToPlay f₀ f text out₀ out from) where
-  pub one_played : (r : Feed) (after : List ℕ) → end < length text → Passes f (slice from end text) out after r → ToPlay f₀ r text out₀ after (end + 1)
+module _ (f₀ f : Feed) (text : List ℕ) (p₀ p : Page) (left : List ℕ) (l : ToPlay f₀ f text p₀ p left) where
+  -- a line and its newline
+  pub one_played : (r : Feed) (after : Page) (line s behind : List ℕ) → line ≡ before newline left → s ≡ since newline left → 1 ≤ length s
+      → behind ≡ take (length s - 1) (drop 1 s) → Passes f line p after r → ToPlay f₀ r text p₀ after behind
   unfolding after_lines
-  one_played r after h p =
-      let e = sym (next_line text from end found h) in
+  one_played r after line s behind e k m b h =
+      let n = place newline left in
+      let d = length text - length left in
+      let long : length s ≡ length left - n = ap length k ∙ length-drop n left in
+      let whole : length (drop 1 s) ≤ length s - 1 = rw length-drop (omega arith) in
+      let is : behind ≡ drop (suc n) left = b ∙ take_all (length s - 1) (drop 1 s) whole ∙ ap (drop 1) k ∙ drop-drop 1 n left ∙ ap (λ (j : ℕ). drop j left) (add-one n) in
+      let count : length behind ≡ length left - suc n = ap length is ∙ length-drop (suc n) left in
+      let first : cut left ≡ line_then line (cut behind) = rw (e, is) (first_line left (omega arith)) in
+      let fits = l.fits in
+      let moved : d + suc n ≡ length text - length behind = omega arith in
       record {
-        stands =
-            ap (λ (s : Standing). after_lines s (cut (drop (end + 1) text)).lines) p.stands
-            ∙ ap (λ (c : Cut). after_lines (standing f out) c.lines) e
-            ∙ l.stands;
-        held = p.held ∙ l.held;
-        rest = ap (λ (c : Cut). c.rest) e ∙ l.rest;
+        stands = ap (λ (x : Standing). after_lines x (cut behind).lines) h.stands ∙ ap (λ (c : Cut). after_lines (standing f p) c.lines) (sym first) ∙ l.stands;
+        held = h.held ∙ l.held;
+        rest = ap (λ (c : Cut). c.rest) (sym first) ∙ l.rest;
+        fits = omega arith;
+        place = ap (λ (j : ℕ). drop j text) (sym moved) ∙ sym (drop-drop (suc n) d text) ∙ ap (drop (suc n)) l.place ∙ sym is;
       }
 
-  pub none_to_play : length text ≤ end
-      → Plays f₀ text out₀ out (record { unit = f.unit; filled = f.filled; played = from; held = f.held; skipping = f.skipping; going = f.going })
+  -- no newline is left
+  pub none_to_play : (s : List ℕ) → s ≡ since newline left → length s < 1
+      → Plays f₀ text p₀ p (record { unit = f.unit; played = length text - length left; held = f.held; skipping = f.skipping; going = f.going })
   unfolding after_lines
-  none_to_play h =
-      let e = sym (last_line text from end found h) in
+  none_to_play s k m =
+      let long : length s ≡ length left - place newline left = ap length k ∙ length-drop (place newline left) left in
+      let all : cut left ≡ record { lines = []; rest = left } = no_line left (omega arith) in
       record {
-        stands = ap (λ (c : Cut). after_lines (standing f out) c.lines) e ∙ l.stands;
+        stands = ap (λ (c : Cut). after_lines (standing f p) c.lines) (sym all) ∙ l.stands;
         held = l.held;
-        rest = ap (λ (c : Cut). c.rest) e ∙ l.rest;
+        rest = l.place ∙ ap (λ (c : Cut). c.rest) (sym all) ∙ l.rest;
       }
-
-pub plays_out : {f a w : Feed} {text before after : List ℕ} → w ≡ emptied a w.going → Plays f text before after a → PlaysOut f text before after w
-plays_out {text = text} {after = after} e h = record {
-  stands = ap (λ (x : Feed). standing x after) e ∙ ap written_out h.stands;
-  held = ap (λ (x : Feed). x.held) e ∙ h.held;
-  rest = ap (λ (x : Feed). drop x.played text) e ∙ h.rest;
-}

@@ -1,12 +1,10 @@
 -- What code leaves, under another name of the same.
 -- Assumes nothing.
-use Prim.Native.Nat.{ℕ}
 use mathlib.Core.Path.{◌≡◌, ap, ◌∙◌}
-use mathlib.Core.List.{List}
 use Rattle.text_put.specs.Text.{Page, typed}
+use Rattle.unit.specs.declared.types.Unit.{Unit}
 use Rattle.replay.specs.Play.{After}
 use Rattle.replay.specs.Played.{Puts}
-use Rattle.replay.specs.declared.played.Played.{Played}
 
-pub putting : {a b : After} {p : Page} {output : List ℕ} {r : Played} → b ≡ a → Puts b p output r → Puts a p output r
+pub putting : {a b : After} {p q : Page} {r : Unit} → b ≡ a → Puts b p q r → Puts a p q r
 putting {p = p} e h = record { unit = h.unit ∙ ap (λ (x : After). x.unit) e; text = h.text ∙ ap (λ (x : After). typed p x.text) e }

@@ -2,7 +2,7 @@
 -- Assumes nothing.
 use Rattle.std.specs.Prelude.{ℕ, ◌-◌, ◌≡◌, Bool, true, false, List, [], ◌∷◌, length, drop}
 use Rattle.std.proofs.Math.Seq.{slice}
-use Rattle.rules.specs.Choice.{◌<ᵇ◌, ◌or◌, pick}
+use Rattle.rules.specs.Choice.{◌<ᵇ◌, pick}
 use Rattle.wire.specs.Bytes.{into}
 use Rattle.port.specs.Parts.{FULL_SPEED}
 use Rattle.port.specs.Device.{Device, power_on}
@@ -18,7 +18,6 @@ use Rattle.replay.specs.declared.feed.Feed.{Feed}
 abbrev pub first_feed : Feed
 first_feed = record {
   unit = unit_of (power_on (record { packet = FULL_SPEED })).unit;
-  filled = 0;
   played = 0;
   held = 0;
   skipping = false;
@@ -27,14 +26,14 @@ first_feed = record {
 
 -- ** what lines leave
 
--- the unit, whether a line that is still to end is skipped, and the output with the place behind its answers
+-- the unit, whether a line that is still to end is skipped, and the page of the answers
 pub record Standing : Type 0 where
   pub unit : Device
   pub skipping : Bool
   pub output : Page
 
-abbrev pub standing : Feed → List ℕ → Standing
-standing f output = record { unit = device_of f.unit; skipping = f.skipping; output = (output, f.filled) }
+abbrev pub standing : Feed → Page → Standing
+standing f p = record { unit = device_of f.unit; skipping = f.skipping; output = p }
 
 -- ** a line that has come to its end
 
@@ -49,31 +48,36 @@ answered_line s line =
     record { unit = a.unit; skipping = false; output = typed s.output a.text }
 
 -- and all else stays
-pub record Ends (f : Feed) (line before after : List ℕ) (r : Feed) : Type 0 where
+pub record Ends (f : Feed) (line : List ℕ) (before after : Page) (r : Feed) : Type 0 where
   pub stands : standing r after ≡ answered_line (standing f before) line
-  pub rest : r ≡ record { unit = r.unit; filled = r.filled; played = f.played; held = f.held; skipping = r.skipping; going = f.going }
+  pub rest : r ≡ record { unit = r.unit; played = f.played; held = f.held; skipping = r.skipping; going = f.going }
 
 -- ** answers that are written out
 
--- the output is free again; whether it could be written is not known beforehand
-abbrev pub emptied : Feed → Bool → Feed
-emptied f going = record { unit = f.unit; filled = 0; played = f.played; held = f.held; skipping = f.skipping; going = going }
+-- the page is free again
+abbrev pub emptied : Page → Page
+emptied p = (p.0, 0)
+
+-- whether it could be written is not known beforehand
+pub record Writes (f : Feed) (before after : Page) (r : Feed) : Type 0 where
+  pub output : after ≡ emptied before
+  pub rest : r ≡ record { unit = f.unit; played = f.played; held = f.held; skipping = f.skipping; going = r.going }
 
 abbrev pub written_out : Standing → Standing
-written_out s = record { unit = s.unit; skipping = s.skipping; output = (s.output.0, 0) }
+written_out s = record { unit = s.unit; skipping = s.skipping; output = emptied s.output }
 
 -- what is to be free before a line is played: more than any answer takes
 abbrev pub ROOM : ℕ
 ROOM = 8192
 
-abbrev pub is_nearly_full : List ℕ → ℕ → Bool
-is_nearly_full out filled = length out <ᵇ ROOM or length out - ROOM <ᵇ filled
+abbrev pub is_nearly_full : Page → Bool
+is_nearly_full p = length p.0 - p.1 <ᵇ ROOM
 
--- an output that is nearly full is written out before a line is played
+-- a page that is nearly full is written out before a line is played
 abbrev pub with_room : Standing → Standing
-with_room s = pick (is_nearly_full s.output.0 s.output.1) (written_out s) s
+with_room s = pick (is_nearly_full s.output) (written_out s) s
 
-pub record Passes (f : Feed) (line before after : List ℕ) (r : Feed) : Type 0 where
+pub record Passes (f : Feed) (line : List ℕ) (before after : Page) (r : Feed) : Type 0 where
   pub stands : standing r after ≡ answered_line (with_room (standing f before)) line
   pub held : r.held ≡ f.held
 
@@ -84,18 +88,18 @@ after_lines s [] = s
 after_lines s (line ∷ lines) = after_lines (answered_line (with_room s) line) lines
 
 -- each line is played and answered, in order and once, and from `played` on stands what has no end yet
-pub record Plays (f : Feed) (text before after : List ℕ) (r : Feed) : Type 0 where
+pub record Plays (f : Feed) (text : List ℕ) (before after : Page) (r : Feed) : Type 0 where
   pub stands : standing r after ≡ after_lines (standing f before) (cut text).lines
   pub held : r.held ≡ f.held
   pub rest : drop r.played text ≡ (cut text).rest
 
 -- the same, with the answers written out; and of the last line, which no newline ends
-pub record PlaysOut (f : Feed) (text before after : List ℕ) (r : Feed) : Type 0 where
+pub record PlaysOut (f : Feed) (text : List ℕ) (before after : Page) (r : Feed) : Type 0 where
   pub stands : standing r after ≡ written_out (after_lines (standing f before) (cut text).lines)
   pub held : r.held ≡ f.held
   pub rest : drop r.played text ≡ (cut text).rest
 
-pub record EndsOut (f : Feed) (line before after : List ℕ) (r : Feed) : Type 0 where
+pub record EndsOut (f : Feed) (line : List ℕ) (before after : Page) (r : Feed) : Type 0 where
   pub stands : standing r after ≡ written_out (answered_line (standing f before) line)
   pub stops : r.going ≡ false
 
@@ -112,5 +116,5 @@ rest_length f end input = length (slice f.played end input)
 abbrev pub holds : Feed → ℕ → Feed
 holds f n =
     pick (LONGEST <ᵇ n)
-    (record { unit = f.unit; filled = f.filled; played = f.played; held = 0; skipping = true; going = f.going })
-    (record { unit = f.unit; filled = f.filled; played = f.played; held = n; skipping = f.skipping; going = f.going })
+    (record { unit = f.unit; played = f.played; held = 0; skipping = true; going = f.going })
+    (record { unit = f.unit; played = f.played; held = n; skipping = f.skipping; going = f.going })

@@ -1,20 +1,21 @@
 // Each call with its words: read, carried out on the unit, and answered. What cannot be read leaves the unit as it was.
-ghost use Rattle.std.specs.Prelude.{◌≡◌, min};
+#![tactic(auto, unfolding(crate::specs::Play::carried_out))]
+
+ghost use Rattle.std.specs.Prelude.{◌≤◌};
 ghost use Rattle.text_lines.specs.Lines.{P, HEX, BUFFER, HH};
 ghost use Rattle.text_lines.specs.Lines as Lines;
 ghost use Rattle.unit.specs.Promise.{device_of};
 ghost use Rattle.replay.specs.Play.{carried_out};
-ghost use Rattle.replay.specs.Played.{Puts};
+ghost use Rattle.replay.specs.Played.{Puts, Means, polling};
 
-use crate::lent::{lend_in, lend_interrupt, lend_setup, lend_take};
-use crate::played::{Played, answered};
+use crate::lent::lend;
+use crate::played::answered;
 use crate::unread::unread;
 use port::types::{STORE, Setting};
 use text_answers::overview::{put_more, put_overview};
-use text_lines::given::{
-    Given, Length, Size, Status, given_bytes, given_length, given_size, given_status,
-};
-use text_words::numbers::{BYTES, start};
+use text_lines::given::{given_bytes, given_size, given_status};
+use text_put::Page;
+use text_words::numbers::BYTES;
 use unit::types::Unit;
 
 // The buffers that a setup packet and a poll of Interrupt-IN are lent where no length is said.
@@ -22,140 +23,97 @@ const CONTROL_BUFFER: usize = 24;
 
 const INTERRUPT_BUFFER: usize = 2;
 
-fn wide(n: u16) -> usize
-    ensures { result ≡ n }
+pub fn power(unit: Unit, word: &[u8], page: &mut Page) -> Unit
+    ensures { Puts (carried_out (device_of unit) (P word.now Lines.power)) page.old page.new result }
 {
-    n as usize
-}
-
-// A packet size, and no more than a buffer can have.
-fn within(n: u16) -> usize
-    ensures { result ≡ min n 2048 }
-{
-    let size = wide(n);
-    if size < BYTES {
-        return size;
-    }
-    BYTES
-}
-
-pub fn power(unit: Unit, word: &[u8], out: &mut [u8], at: usize) -> Played
-    ensures { Puts (carried_out (device_of unit) (P word.now Lines.power)) (out.old, at) out.new result }
-{
-    let size = given_size(word);
-    match size {
-        Size::NoSize(why) => unread(unit, word, why, out, at),
-        Size::Packet(packet) => {
-            let setting = Setting { packet };
-            answered(Unit::new(setting), out, at)
-        }
+    match given_size(word) {
+        Ok(packet) => answered(Unit::new(Setting { packet }), page),
+        Err(why) => unread(unit, word, why, page),
     }
 }
 
 // A setup packet with the bytes that its word gave.
-fn setup_of(unit: Unit, packet: &[u8], length: &[u8], out: &mut [u8], at: usize) -> Played
-    ensures { Puts (carried_out (device_of unit) (BUFFER length.now (Lines.setup packet.now))) (out.old, at)
-        out.new result }
+fn setup_of(unit: Unit, packet: &[u8], length: &[u8], page: &mut Page) -> Unit
+    ensures { Puts (carried_out (device_of unit) (BUFFER length.now (Lines.setup packet.now))) page.old page.new result }
 {
-    let given = given_length(length);
-    match given {
-        Length::NoLength(why) => unread(unit, length, why, out, at),
-        Length::OfTheCall => lend_setup(unit, packet, CONTROL_BUFFER, out, at),
-        Length::Buffer(n) => lend_setup(unit, packet, wide(n), out, at),
+    lend(unit, length, CONTROL_BUFFER, page, |unit, buffer| {
+        unit.setup(packet, buffer)
+    })
+}
+
+pub fn setup(unit: Unit, word: &[u8], length: &[u8], page: &mut Page) -> Unit
+    ensures { Puts (carried_out (device_of unit) (HEX word.now λ s. BUFFER length.now (Lines.setup s))) page.old page.new result }
+{
+    match given_bytes(word) {
+        Ok(packet) => setup_of(unit, packet.as_slice(), length, page),
+        Err(why) => unread(unit, word, why, page),
     }
 }
 
-pub fn setup(unit: Unit, word: &[u8], length: &[u8], out: &mut [u8], at: usize) -> Played
-    ensures { Puts (carried_out (device_of unit) (HEX word.now λ s. BUFFER length.now (Lines.setup s))) (out.old, at)
-        out.new result }
+pub fn packet_out(unit: Unit, word: &[u8], page: &mut Page) -> Unit
+    ensures { Puts (carried_out (device_of unit) (HEX word.now Lines.out)) page.old page.new result }
 {
-    let mut bytes = [0u8; BYTES];
-    let given = given_bytes(word, &mut bytes);
-    match given {
-        Given::NoBytes(why) => unread(unit, word, why, out, at),
-        Given::Bytes(count) => setup_of(unit, start(&bytes, count), length, out, at),
+    match given_bytes(word) {
+        Ok(packet) => answered(unit.bulk_out(packet.as_slice()), page),
+        Err(why) => unread(unit, word, why, page),
     }
 }
 
-pub fn packet_out(unit: Unit, word: &[u8], out: &mut [u8], at: usize) -> Played
-    ensures { Puts (carried_out (device_of unit) (HEX word.now Lines.out)) (out.old, at) out.new result }
+// The buffer that a poll of Bulk-IN is lent where no length is said: as long as a packet, and no longer than a buffer can be.
+fn packet_buffer(unit: &Unit) -> usize
+    ensures fits { result ≤ 2048 }
+    ensures means { Means (device_of unit.now) result polling }
 {
-    let mut bytes = [0u8; BYTES];
-    let given = given_bytes(word, &mut bytes);
-    match given {
-        Given::NoBytes(why) => unread(unit, word, why, out, at),
-        Given::Bytes(count) => answered(unit.bulk_out(start(&bytes, count)), out, at),
+    usize::from(unit.small.port.setting.packet).min(BYTES)
+}
+
+pub fn packet_in(unit: Unit, length: &[u8], page: &mut Page) -> Unit
+    ensures { Puts (carried_out (device_of unit) (BUFFER length.now Lines.in_poll)) page.old page.new result }
+{
+    lend(unit, length, packet_buffer(&unit), page, Unit::bulk_in)
+}
+
+pub fn packet_interrupt(unit: Unit, length: &[u8], page: &mut Page) -> Unit
+    ensures { Puts (carried_out (device_of unit) (BUFFER length.now Lines.in3_poll)) page.old page.new result }
+{
+    lend(unit, length, INTERRUPT_BUFFER, page, Unit::interrupt_in)
+}
+
+pub fn take(unit: Unit, length: &[u8], page: &mut Page) -> Unit
+    ensures { Puts (carried_out (device_of unit) (BUFFER length.now Lines.take_into)) page.old page.new result }
+{
+    lend(unit, length, usize::from(STORE), page, Unit::take)
+}
+
+// As packet_out: what a function of both would have to be promised of its call is longer than the two.
+pub fn offer(unit: Unit, word: &[u8], page: &mut Page) -> Unit
+    ensures { Puts (carried_out (device_of unit) (HEX word.now Lines.offer)) page.old page.new result }
+{
+    match given_bytes(word) {
+        Ok(reply) => answered(unit.offer(reply.as_slice()), page),
+        Err(why) => unread(unit, word, why, page),
     }
 }
 
-pub fn packet_in(unit: Unit, length: &[u8], out: &mut [u8], at: usize) -> Played
-    ensures { Puts (carried_out (device_of unit) (BUFFER length.now Lines.in_poll)) (out.old, at) out.new result }
+pub fn status(unit: Unit, word: &[u8], page: &mut Page) -> Unit
+    ensures { Puts (carried_out (device_of unit) (HH word.now Lines.status)) page.old page.new result }
 {
-    let given = given_length(length);
-    match given {
-        Length::NoLength(why) => unread(unit, length, why, out, at),
-        Length::OfTheCall => lend_in(unit, within(unit.small.port.setting.packet), out, at),
-        Length::Buffer(n) => lend_in(unit, wide(n), out, at),
+    match given_status(word) {
+        Ok(byte) => answered(unit.set_status(byte), page),
+        Err(why) => unread(unit, word, why, page),
     }
 }
 
-pub fn packet_interrupt(unit: Unit, length: &[u8], out: &mut [u8], at: usize) -> Played
-    ensures { Puts (carried_out (device_of unit) (BUFFER length.now Lines.in3_poll)) (out.old, at) out.new result }
+pub fn overview(unit: Unit, page: &mut Page) -> Unit
+    ensures { Puts (carried_out (device_of unit) Lines.state) page.old page.new result }
 {
-    let given = given_length(length);
-    match given {
-        Length::NoLength(why) => unread(unit, length, why, out, at),
-        Length::OfTheCall => lend_interrupt(unit, INTERRUPT_BUFFER, out, at),
-        Length::Buffer(n) => lend_interrupt(unit, wide(n), out, at),
-    }
+    put_overview(page, unit.small, unit.split, unit.remote);
+    unit
 }
 
-pub fn take(unit: Unit, length: &[u8], out: &mut [u8], at: usize) -> Played
-    ensures { Puts (carried_out (device_of unit) (BUFFER length.now Lines.take_into)) (out.old, at) out.new result }
+pub fn more(unit: Unit, page: &mut Page) -> Unit
+    ensures { Puts (carried_out (device_of unit) Lines.more) page.old page.new result }
 {
-    let given = given_length(length);
-    match given {
-        Length::NoLength(why) => unread(unit, length, why, out, at),
-        Length::OfTheCall => lend_take(unit, wide(STORE), out, at),
-        Length::Buffer(n) => lend_take(unit, wide(n), out, at),
-    }
-}
-
-pub fn offer(unit: Unit, word: &[u8], out: &mut [u8], at: usize) -> Played
-    ensures { Puts (carried_out (device_of unit) (HEX word.now Lines.offer)) (out.old, at) out.new result }
-{
-    let mut bytes = [0u8; BYTES];
-    let given = given_bytes(word, &mut bytes);
-    match given {
-        Given::NoBytes(why) => unread(unit, word, why, out, at),
-        Given::Bytes(count) => answered(unit.offer(start(&bytes, count)), out, at),
-    }
-}
-
-pub fn status(unit: Unit, word: &[u8], out: &mut [u8], at: usize) -> Played
-    ensures { Puts (carried_out (device_of unit) (HH word.now Lines.status)) (out.old, at) out.new result }
-{
-    let given = given_status(word);
-    match given {
-        Status::NoByte(why) => unread(unit, word, why, out, at),
-        Status::Byte(byte) => answered(unit.set_status(byte), out, at),
-    }
-}
-
-pub fn overview(unit: Unit, out: &mut [u8], at: usize) -> Played
-    ensures { Puts (carried_out (device_of unit) Lines.state) (out.old, at) out.new result }
-{
-    let small = unit.small;
-    let split = unit.split;
-    let remote = unit.remote;
-    let end = put_overview(out, at, small, split, remote);
-    Played { unit, at: end }
-}
-
-pub fn more(unit: Unit, out: &mut [u8], at: usize) -> Played
-    ensures { Puts (carried_out (device_of unit) Lines.more) (out.old, at) out.new result }
-{
-    let small = unit.small;
-    let end = put_more(out, at, small);
-    Played { unit, at: end }
+    put_more(page, unit.small);
+    unit
 }

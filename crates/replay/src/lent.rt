@@ -1,91 +1,47 @@
 // The calls that are lent a buffer, which is filled before and looked at after.
-ghost use Rattle.std.specs.Prelude.{◌≡◌, true, ◌≤◌, length};
-ghost use Rattle.port.specs.Step.{setup_of, in_poll, interrupt_poll, take_into, quiet, step};
-ghost use Rattle.text_answers.specs.Answer.{filled};
+ghost use Rattle.std.specs.Prelude.{◌≡◌, ◌≤◌};
+ghost use Rattle.text_lines.specs.Lines.{BUFFER, lent};
 ghost use Rattle.unit.specs.Promise.{device_of};
-ghost use Rattle.replay.specs.Play.{told};
-ghost use Rattle.replay.specs.Played.{Puts};
+ghost use Rattle.replay.specs.Play.{carried_out, room};
+ghost use Rattle.replay.specs.Played.{Puts, Lending, Makes, Means};
 
-use crate::played::{Played, answered_with};
+use crate::played::answered_with;
+use crate::unread::unread;
 use text_answers::answer::FILL;
+use text_lines::given::given_length;
+use text_put::Page;
 use text_words::numbers::BYTES;
-use unit::types::Unit;
+use unit::types::{Told, Unit};
 
-// ** into the first n bytes of a buffer that is filled
+// How long a lent buffer is: as long as is said, or the call's own.
+fn room(own: usize, said: Option<u16>) -> usize
+    ensures { result ≡ room own (lent said) }
+{
+    said.map_or(own, usize::from)
+}
 
-fn setup_into(
+// A call that is lent a buffer, of as many bytes as the word says; where it is missing, of the call's own length.
+#[tactic(auto, using(crate::proofs::Rooms::room_fits), unfolding(crate::specs::Play::carried_out))]
+pub fn lend<F: FnOnce(Unit, &mut [u8]) -> Told>(
     unit: Unit,
-    packet: &[u8],
-    buffer: &mut [u8],
-    n: usize,
-    out: &mut [u8],
-    at: usize,
-) -> Played
-    requires { (n ≤ length buffer.old) × (filled buffer.old ≡ true) }
-    ensures { Puts (told (step (device_of unit) (setup_of packet.now n))) (out.old, at) out.new result }
+    word: &[u8],
+    own: usize,
+    page: &mut Page,
+    call: F,
+) -> Unit
+    ghost lending: { Lending }
+    requires fits { own ≤ 2048 }
+    requires callable { F.IsAlwaysCallable call }
+    requires makes { Makes (F.post call) lending.call }
+    requires means { Means (device_of unit) own lending }
+    ensures { Puts (carried_out (device_of unit) (BUFFER word.now lending.meaning)) page.old page.new result }
 {
-    let lent = &mut buffer[..n];
-    let told = unit.setup(packet, lent);
-    answered_with(told, lent, out, at)
-}
-
-fn in_into(unit: Unit, buffer: &mut [u8], n: usize, out: &mut [u8], at: usize) -> Played
-    requires { (n ≤ length buffer.old) × (filled buffer.old ≡ true) }
-    ensures { Puts (told (step (device_of unit) (quiet (in_poll n)))) (out.old, at) out.new result }
-{
-    let lent = &mut buffer[..n];
-    let told = unit.bulk_in(lent);
-    answered_with(told, lent, out, at)
-}
-
-fn interrupt_into(unit: Unit, buffer: &mut [u8], n: usize, out: &mut [u8], at: usize) -> Played
-    requires { (n ≤ length buffer.old) × (filled buffer.old ≡ true) }
-    ensures { Puts (told (step (device_of unit) (quiet (interrupt_poll n)))) (out.old, at) out.new result }
-{
-    let lent = &mut buffer[..n];
-    let told = unit.interrupt_in(lent);
-    answered_with(told, lent, out, at)
-}
-
-fn message_into(unit: Unit, buffer: &mut [u8], n: usize, out: &mut [u8], at: usize) -> Played
-    requires { (n ≤ length buffer.old) × (filled buffer.old ≡ true) }
-    ensures { Puts (told (step (device_of unit) (take_into n))) (out.old, at) out.new result }
-{
-    let lent = &mut buffer[..n];
-    let told = unit.take(lent);
-    answered_with(told, lent, out, at)
-}
-
-// ** into a buffer of n bytes
-
-pub fn lend_setup(unit: Unit, packet: &[u8], n: usize, out: &mut [u8], at: usize) -> Played
-    requires { n ≤ 2048 }
-    ensures { Puts (told (step (device_of unit) (setup_of packet.now n))) (out.old, at) out.new result }
-{
+    let n = match given_length(word) {
+        Ok(said) => room(own, said),
+        Err(why) => return unread(unit, word, why, page),
+    };
     let mut buffer = [FILL; BYTES];
-    setup_into(unit, packet, &mut buffer, n, out, at)
-}
-
-pub fn lend_in(unit: Unit, n: usize, out: &mut [u8], at: usize) -> Played
-    requires { n ≤ 2048 }
-    ensures { Puts (told (step (device_of unit) (quiet (in_poll n)))) (out.old, at) out.new result }
-{
-    let mut buffer = [FILL; BYTES];
-    in_into(unit, &mut buffer, n, out, at)
-}
-
-pub fn lend_interrupt(unit: Unit, n: usize, out: &mut [u8], at: usize) -> Played
-    requires { n ≤ 2048 }
-    ensures { Puts (told (step (device_of unit) (quiet (interrupt_poll n)))) (out.old, at) out.new result }
-{
-    let mut buffer = [FILL; BYTES];
-    interrupt_into(unit, &mut buffer, n, out, at)
-}
-
-pub fn lend_take(unit: Unit, n: usize, out: &mut [u8], at: usize) -> Played
-    requires { n ≤ 2048 }
-    ensures { Puts (told (step (device_of unit) (take_into n))) (out.old, at) out.new result }
-{
-    let mut buffer = [FILL; BYTES];
-    message_into(unit, &mut buffer, n, out, at)
+    let lent = &mut buffer[..n];
+    let told = call(unit, lent);
+    answered_with(told, lent, page)
 }

@@ -5,89 +5,69 @@ mod calls; // each call with its words
 mod feed; // the lines in what was read
 mod lent; // the calls that are lent a buffer
 mod line; // one line
-mod played; // what playing a line leaves
+mod played; // the answer to a call
 mod rest; // the part of a line that waits for its end
 mod unread; // the answer to a word that cannot be read
 
-ghost use Rattle.std.specs.Prelude.{◌≡◌, ◌+◌, min};
 ghost use Rattle.replay.specs.Feed.{PlaysOut, EndsOut};
 
-use feed::{Feed, ended, first_feed, whole_lines, written};
-use rest::hold;
+use feed::Feed;
 use std::io::Read;
-use text_words::words::first_part;
+use text_put::{Page, first_part};
 
 // How many bytes each of the two buffers has.
 const LARGE: usize = 65536;
 
-// The place behind n more bytes, and none past `most`.
-fn behind(at: usize, n: usize, most: usize) -> usize
-    ensures { result ≡ min (at + n) most }
-{
-    if n <= most {
-        if at <= most - n {
-            return at + n;
-        }
-    }
-    most
-}
-
 // Reads what is there into the input behind `held` bytes, and hands back where it ends. Where nothing came, that is `held`.
 fn filled(rt: &HostRuntime, input: &mut [u8], held: usize) -> usize {
-    if held > input.len() {
-        return held;
-    }
-    let mut from = rt.stdin();
-    match from.read(&mut input[held..]) {
-        Ok(n) => behind(held, n, input.len()),
-        Err(_) => held,
+    match input.get_mut(held..) {
+        Some(free) => held + rt.stdin().read(free).unwrap_or(0),
+        None => held,
     }
 }
 
 // The input is at its end: a last line without a newline counts.
-fn last_turn(rt: &HostRuntime, feed: Feed, input: &[u8], output: &mut [u8]) -> Feed
-    ensures { EndsOut feed input.now output.old output.new result }
+fn last_turn(rt: &HostRuntime, feed: &mut Feed, input: &[u8], page: &mut Page)
+    ensures { EndsOut feed.old input.now page.old page.new feed.new }
 {
-    let after = ended(feed, input, output);
-    let mut last = written(rt, after, output);
-    last.going = false;
-    last
+    feed.end(input, page);
+    feed.write_out(rt, page);
+    feed.going = false;
 }
 
 // The lines in what was read are played, and their answers written.
-fn some_lines(rt: &HostRuntime, feed: Feed, input: &[u8], output: &mut [u8]) -> Feed
-    ensures { PlaysOut feed input.now output.old output.new result }
+fn some_lines(rt: &HostRuntime, feed: &mut Feed, input: &[u8], page: &mut Page)
+    ensures { PlaysOut feed.old input.now page.old page.new feed.new }
 {
-    let after = whole_lines(rt, feed, input, output);
-    written(rt, after, output)
+    feed.play_lines(rt, input, page);
+    feed.write_out(rt, page);
 }
 
 // One read, with the lines that it brings.
-fn turn(rt: &HostRuntime, feed: Feed, input: &mut [u8], output: &mut [u8]) -> Feed {
+fn turn(rt: &HostRuntime, feed: &mut Feed, input: &mut [u8], page: &mut Page) {
     let held = feed.held;
     let end = filled(rt, input, held);
     if end <= held {
-        return last_turn(rt, feed, first_part(input, held), output);
+        last_turn(rt, feed, first_part(input, held), page);
+    } else {
+        some_lines(rt, feed, first_part(input, end), page);
+        feed.hold(input, end);
     }
-    let after = some_lines(rt, feed, first_part(input, end), output);
-    hold(after, input, end)
 }
 
-// A proved loop has to end, and nothing says that the input does: the turns count down from a number that no run uses up.
-fn serve(rt: &HostRuntime, input: &mut [u8], output: &mut [u8]) {
-    let mut feed = first_feed();
-    let mut turns = u64::MAX;
-    while turns > 0 {
-        feed = turn(rt, feed, input, output);
+// A proved loop has to end, and nothing says that the input does: there are more turns than any run uses up.
+fn serve(rt: &HostRuntime, input: &mut [u8], page: &mut Page) {
+    let mut feed = Feed::new();
+    for _ in 0..u64::MAX {
+        turn(rt, &mut feed, input, page);
         if !feed.going {
             return;
         }
-        turns -= 1;
     }
 }
 
 fn main(rt: HostRuntime) {
     let mut input = [0; LARGE];
     let mut output = [0; LARGE];
-    serve(&rt, &mut input, &mut output);
+    serve(&rt, &mut input, &mut Page::new(&mut output));
 }

@@ -2,15 +2,15 @@
 -- allow. `decide_all` and `decide_both` take a list of rules apart for a theorem: what holds of each refusal, and of what is left when
 -- no test held, holds of the decision.
 -- Assumes nothing.
-use Prim.Native.Nat.{ℕ, zero, suc, ◌≤◌, ◌<◌}
+use Prim.Native.Nat.{ℕ, ◌≤◌, ◌<◌}
 use mathlib.Core.Path.{◌≡◌, refl, sym, ap, ◌∙◌}
-use mathlib.Core.Bool.{Bool, true, false, true≢false, false≢true}
+use mathlib.Core.Bool.{Bool, true, false, not, true≢false, false≢true}
 use mathlib.Core.List.{List, [], ◌∷◌}
 use mathlib.Core.Logic.{◌⊎◌, inl, inr}
-use native.Mathlib.Omega.{arith}
-use lib.Dec.{T, ltb, eqb}
+use lib.Dec.{ltb, eqb}
 use borrow.Author.Tests.{lt-ltb, le-ltb, le-leb, lt-leb, eq-eqb, ne_eqb, eqb-true, eqb-false}
-use Rattle.rules.specs.Choice.{no, ◌≠ᵇ◌, ◌or◌, ◌and◌, pick, decide, first, all, named}
+use Rattle.std.specs.Prelude.{Result, Ok, Err}
+use Rattle.rules.specs.Choice.{no, ◌≠ᵇ◌, ◌or◌, ◌and◌, pick, decide, gate, all, named}
 
 -- ** the value of a test from a fact
 
@@ -178,6 +178,32 @@ pub ruleset tests = (
 
 pub ruleset picks = (pick_self, by_key, pick_true, pick_false, tests)
 
+-- ** a test that code makes of tests: `||`, `&&` and `!`
+
+pub or_then : (a b : Bool) → a ≡ true → true ≡ (a or b)
+or_then a b e = sym (or_left a b e)
+
+pub or_else : (x a b : Bool) → a ≡ false → x ≡ b → x ≡ (a or b)
+or_else x a b e f = f ∙ sym (or_false a b e)
+
+pub and_then : (x a b : Bool) → a ≡ true → x ≡ b → x ≡ (a and b)
+unfolding ◌and◌
+and_then x a b e f = rw e f
+
+pub and_else : (x a b : Bool) → a ≡ false → x ≡ a → x ≡ (a and b)
+and_else x a b e f = f ∙ e ∙ sym (and_left a b e)
+
+pub not_no_lem : (a : Bool) → not a ≡ no a
+unfolding no
+not_no_lem true = refl
+not_no_lem false = refl
+
+pub not_neb : (m n : ℕ) → not (eqb m n) ≡ (m ≠ᵇ n)
+unfolding ◌≠ᵇ◌
+not_neb m n = not_no_lem (eqb m n)
+
+pub ruleset bools = (not_neb, not_no_lem, or_then, or_else, and_then, and_else, tests)
+
 -- what is made of a choice is a choice
 pub pick_map : {A B : Type 0} (f : A → B) (t : Bool) (a b : A) → pick t (f a) (f b) ≡ f (pick t a b)
 unfolding pick
@@ -242,42 +268,27 @@ pub decide_none : {A B : Type 0} (f : A → B) (rs : List (Bool × A)) (z : B) �
 decide_none f [] z h = refl
 decide_none f (r ∷ rs) z h = at_false r.0 _ _ h.0 ∙ decide_none f rs z h.1
 
--- no number of the list is 0, as a test that computes
-abbrev pub counted : List ℕ → Bool
-counted [] = true
-counted (zero ∷ ns) = false
-counted (suc n ∷ ns) = counted ns
+-- what is decided, by what the gate says: what it is shut with, or what is behind it
+module _ {A B : Type 0} (f : A → B) (rs : List (Bool × A)) (z : B) (x : Result (Unit {0}) A) (is : x ≡ gate rs) where
+  abbrev Told : Result (Unit {0}) A → B → Type 0
+  Told y d = ((a : A) → y ≡ Err a → f a ≡ d) × (y ≡ Ok tt → z ≡ d)
 
--- the same by the number `n` of a function that goes through the list and gives 0 where none applies: no rule's number is 0
-Decided : {B : Type 0} → (ℕ → B) → ℕ → B → B → Type 0
-Decided f n d z = ((n ≡ 0 → ⊥) → f n ≡ d) × (n ≡ 0 → z ≡ d)
+  told : Told (gate rs) (decide f rs z)
+  told = decide_both Told Err f rs (Ok tt) z (λ a. (λ b e. sym (ap f (cc)), λ e. cc)) (λ _. (λ a e. cc, λ e. refl))
 
-decided : {B : Type 0} (f : ℕ → B) (rs : List (Bool × ℕ)) (z : B) → T (counted (named rs)) → Decided f (first rs 0) (decide f rs z) z
-unfolding Decided
-decided f [] z h = (λ e. absurd (e refl), λ _. refl)
-decided f (r ∷ rs) z h = one r.0 r.1 h (decided f rs z)
+  pub refuses : (a : A) → x ≡ Err a → f a ≡ decide f rs z
+  refuses a e = told.0 a (sym is ∙ e)
+
+  pub passes : x ≡ Ok tt → z ≡ decide f rs z
+  passes e = told.1 (sym is ∙ e)
+
+-- and where it is open, no test held
+pub none_of : {A : Type 0} (rs : List (Bool × A)) (x : Result (Unit {0}) A) → x ≡ gate rs → x ≡ Ok tt → NoneOf rs
+none_of {A} rs x is e = decide_lines (λ (y : Result (Unit {0}) A). y ≡ Ok tt → NoneOf rs) Err rs (Ok tt) (shut rs) (λ ns _. ns) (sym is ∙ e)
   where
-    one : (t : Bool) (k : ℕ) → T (counted (k ∷ named rs)) → (T (counted (named rs)) → Decided f (first rs 0) (decide f rs z) z)
-        → Decided f (pick t k (first rs 0)) (pick t (f k) (decide f rs z)) z
-    one t zero h d = absurd h
-    one t (suc k) h d = pick_both (λ n e. Decided f n e z) t _ _ _ _ (λ _. (λ _. refl, λ e. let x : ◌≡◌ {A = ℕ} 0 1 = cc in absurd (omega arith))) (λ _. d h)
-
-pub refuses : {B : Type 0} (f : ℕ → B) (rs : List (Bool × ℕ)) (z : B) (n : ℕ) → T (counted (named rs)) → n ≡ first rs 0 → (n ≡ 0 → ⊥) → f n ≡ decide f rs z
-unfolding Decided
-refuses f rs z n h e = rw e (decided f rs z h).0
-
-pub passes : {B : Type 0} (f : ℕ → B) (rs : List (Bool × ℕ)) (z : B) (n : ℕ) → T (counted (named rs)) → n ≡ first rs 0 → n ≡ 0 → z ≡ decide f rs z
-unfolding Decided
-passes f rs z n h e = rw e (decided f rs z h).1
-
--- and where that number is 0, no test held
-pub none_of : (rs : List (Bool × ℕ)) (n : ℕ) → T (counted (named rs)) → n ≡ first rs 0 → n ≡ 0 → NoneOf rs
-none_of rs n h e z = decide_all (λ (m : ℕ). m ≡ 0 → NoneOf rs) (λ k. k) rs 0 (each (named rs) h) (λ ns _. ns) (sym e ∙ z)
-  where
-    each : (ns : List ℕ) → T (counted ns) → Each (λ (k : ℕ). k ≡ 0 → NoneOf rs) ns
-    each [] h = tt
-    each (zero ∷ ns) h = absurd h
-    each (suc k ∷ ns) h = (λ e. absurd (omega arith), each ns h)
+    shut : (ls : List (Bool × A)) → EachLine (λ (a : A). ◌≡◌ {A = Result (Unit {0}) A} (Err a) (Ok tt) → NoneOf rs) ls
+    shut [] = tt
+    shut (l ∷ ls) = (λ _ e. cc, shut ls)
 
 -- ** lists of tests
 

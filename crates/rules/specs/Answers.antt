@@ -2,6 +2,9 @@
 -- Assumes nothing.
 use Rattle.std.specs.Prelude.{ℕ, List, [], ◌∷◌}
 use Rattle.rules.specs.Choice.{pick, ◌=ᵇ◌}
+use Rattle.rules.specs.declared.refusal.Refusal.{Refusal}
+use Rattle.rules.specs.declared.refusal.Refusal.TheVariants.{Unsound, Unconfigured, WrongSize, Halted, Wait, NotInFours, ShortHeader}
+use Rattle.rules.specs.declared.refusal.Refusal.TheVariants.{BadTag, UnknownMsgId, Reserved, WrongLength, TooLong, OutOfTurn, UnknownRow, NotNow}
 use Rattle.rules.specs.declared.verdict.Verdict.{Verdict}
 
 -- ** 01, "What each number returns and leaves": given when. 14 is free: 02, request 2, "14 is no longer given"
@@ -53,6 +56,24 @@ NO_ROW = 15
 
 abbrev pub NOT_NOW : ℕ
 NOT_NOW = 16
+
+-- the number of each refusal
+abbrev pub number_of : Refusal → ℕ
+number_of Unsound = UNSOUND
+number_of Unconfigured = UNCONFIGURED
+number_of WrongSize = WRONG_SIZE
+number_of Halted = HALTED
+number_of Wait = WAIT
+number_of NotInFours = NOT_IN_FOURS
+number_of ShortHeader = SHORT_HEADER
+number_of BadTag = BAD_TAG
+number_of UnknownMsgId = UNKNOWN_MSGID
+number_of Reserved = RESERVED
+number_of WrongLength = WRONG_LENGTH
+number_of TooLong = TOO_LONG
+number_of OutOfTurn = OUT_OF_TURN
+number_of UnknownRow = NO_ROW
+number_of NotNow = NOT_NOW
 
 -- ** the same table: leaves
 
@@ -128,6 +149,10 @@ TELLS_PULSE = 2
 -- a number that tells nothing
 abbrev pub only : ℕ → Verdict
 only n = record { number = n; tells = TELLS_NOTHING }
+
+-- a refusal's
+abbrev pub refusing : Refusal → Verdict
+refusing r = only (number_of r)
 
 abbrev pub done : Verdict
 done = only DONE

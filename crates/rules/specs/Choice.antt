@@ -1,6 +1,6 @@
 -- How a rule is written down. "The first that applies decides" (01) is a list of lines `test ⇒ number`, read from the top.
 -- Its laws are in proofs/Choice.antt. Assumes nothing.
-use Rattle.std.specs.Prelude.{ℕ, Bool, true, false, List, [], ◌∷◌, ltb, leb, eqb}
+use Rattle.std.specs.Prelude.{ℕ, Bool, true, false, List, [], ◌∷◌, Result, Ok, Err, ltb, leb, eqb}
 
 infix 50 ◌=ᵇ◌ ◌≠ᵇ◌ ◌<ᵇ◌ ◌≤ᵇ◌
 infixr 30 ◌and◌
@@ -53,6 +53,10 @@ decide f (r ∷ rs) z = pick r.0 (f r.1) (decide f rs z)
 -- the same where a line holds the decision itself
 abbrev pub first : {A : Type 0} → List (Bool × A) → A → A
 first rs z = decide (λ a. a) rs z
+
+-- a gate: shut by the first line whose test holds, with what it says; open where none does
+abbrev pub gate : {A : Type 0} → List (Bool × A) → Result (Unit {0}) A
+gate rs = decide Err rs (Ok tt)
 
 -- a line of a list of tests, and the lines below it
 abbrev pub ◌&◌ : Bool → List Bool → List Bool

@@ -1,71 +1,71 @@
 -- What a row of an abort or a clear comes to, a law for each way that its code takes.
 -- Assumes nothing.
 use Prim.Native.Nat.{ℕ}
-use mathlib.Core.Path.{◌≡◌, refl}
-use mathlib.Core.Bool.{true, false}
+use mathlib.Core.Path.{◌≡◌, refl, ap, ◌∙◌}
+use mathlib.Core.Bool.{Bool, true, false}
 use mathlib.Core.List.{[], ◌∷◌}
-use Rattle.rules.specs.Choice.{first}
+use Rattle.std.specs.Prelude.{Result, Ok, Err}
+use Rattle.rules.specs.Choice.{gate, decide}
 use Rattle.rules.specs.Answers.{SUCCESS, PENDING, SPLIT_NOT_IN_PROGRESS, SPLIT_IN_PROGRESS}
-use Rattle.rules.proofs.Choice.{no_true, no_false, pick_true, pick_false, refuses, passes}
+use Rattle.rules.proofs.Choice.{no_true, no_false, pick_true, pick_false, refuses, passes, tests}
 use Rattle.wire.specs.Header.{D0}
-use Rattle.port.specs.Parts.{is_open_out, is_open_in, is_owed, is_clear, out_of, in_of}
-use Rattle.port.specs.Rows.{answering, reacts, abort_rules, out_tag, in_tag, initiate_abort_out, initiate_abort_in}
+use Rattle.port.specs.Parts.{is_owed, is_clear}
+use Rattle.port.specs.Rows.{Reaction, answering, reacts, abort_rules}
 use Rattle.port.specs.Rows.{abort_status, abort_ends, check_abort_in, initiate_clear, check_clear}
 use Rattle.port.specs.declared.types.BulkIn.{BulkIn}
-use Rattle.port.specs.declared.types.Effect.TheVariants.{AbortsOut, AbortsIn, Clears, EndsSplit}
+use Rattle.port.specs.declared.types.Effect.{Effect}
+use Rattle.port.specs.declared.types.Effect.TheVariants.{Clears, EndsSplit}
 use Rattle.port.specs.declared.types.Split.{Split}
 use Rattle.port.specs.declared.types.Split.TheVariants.{AbortIn}
-use Rattle.port.specs.declared.types.State.{State}
+use Rattle.setup_splits.specs.Control.{control_of}
+use Rattle.setup_splits.specs.declared.types.Control.{Control}
 
-module _ (st : State) (tag status : ℕ) where
-  module _ (gate : status ≡ first (abort_rules st.split (is_open_out (out_of st)) (out_tag (out_of st)) tag) 0) where
-    pub abort_out_refused : (status ≡ 0 → ⊥) → answering (status ∷ out_tag (out_of st) ∷ []) ≡ initiate_abort_out st tag
-    unfolding initiate_abort_out
-    abort_out_refused e = refuses (λ (n : ℕ). answering (n ∷ out_tag (out_of st) ∷ [])) (abort_rules st.split (is_open_out (out_of st)) (out_tag (out_of st)) tag) _ status tt gate e
+via : (x : Control) {r q : Reaction} → r ≡ q → x ≡ control_of r → x ≡ control_of q
+via x e f = f ∙ ap control_of e
 
-    pub abort_out_done : status ≡ 0 → reacts AbortsOut (SUCCESS ∷ out_tag (out_of st) ∷ []) ≡ initiate_abort_out st tag
-    unfolding initiate_abort_out
-    abort_out_done e = passes (λ (n : ℕ). answering (n ∷ out_tag (out_of st) ∷ [])) (abort_rules st.split (is_open_out (out_of st)) (out_tag (out_of st)) tag) _ status tt gate e
-
-  module _ (gate : status ≡ first (abort_rules st.split (is_open_in (in_of st)) (in_tag (in_of st)) tag) 0) where
-    pub abort_in_refused : (status ≡ 0 → ⊥) → answering (status ∷ in_tag (in_of st) ∷ []) ≡ initiate_abort_in st tag
-    unfolding initiate_abort_in
-    abort_in_refused e = refuses (λ (n : ℕ). answering (n ∷ in_tag (in_of st) ∷ [])) (abort_rules st.split (is_open_in (in_of st)) (in_tag (in_of st)) tag) _ status tt gate e
-
-    pub abort_in_done : status ≡ 0 → reacts AbortsIn (SUCCESS ∷ in_tag (in_of st) ∷ []) ≡ initiate_abort_in st tag
-    unfolding initiate_abort_in
-    abort_in_done e = passes (λ (n : ℕ). answering (n ∷ in_tag (in_of st) ∷ [])) (abort_rules st.split (is_open_in (in_of st)) (in_tag (in_of st)) tag) _ status tt gate e
-
-module _ (b : BulkIn) where
+module _ (x : Control) (b : BulkIn) where
   -- CHECK of an abort-IN
-  pub abort_pending : (count : ℕ) → is_owed b ≡ true → answering (abort_status PENDING D0 0) ≡ check_abort_in b (AbortIn count)
+  pub abort_pending : (count : ℕ) → is_owed b ≡ true → x ≡ control_of (answering (abort_status PENDING D0 0)) → x ≡ control_of (check_abort_in b (AbortIn count))
   unfolding check_abort_in
-  abort_pending count e = pick_true _ _ _ _ e refl
+  abort_pending count e = via x (pick_true _ _ _ _ e refl)
 
-  pub abort_ended : (count : ℕ) → is_owed b ≡ false → abort_ends count ≡ check_abort_in b (AbortIn count)
+  pub abort_ended : (count : ℕ) → is_owed b ≡ false → x ≡ control_of (abort_ends count) → x ≡ control_of (check_abort_in b (AbortIn count))
   unfolding check_abort_in
-  abort_ended count e = pick_false _ _ _ _ e refl
+  abort_ended count e = via x (pick_false _ _ _ _ e refl)
 
   module _ (split : Split) where
     -- CHECK_CLEAR_STATUS
-    pub clear_pending : is_clear split ≡ true → is_owed b ≡ true → answering (PENDING ∷ D0 ∷ []) ≡ check_clear b split
+    pub clear_pending : is_clear split ≡ true → is_owed b ≡ true → x ≡ control_of (answering (PENDING ∷ D0 ∷ [])) → x ≡ control_of (check_clear b split)
     unfolding check_clear
-    clear_pending e f = pick_false _ _ _ _ (no_false _ e) (pick_true _ _ _ _ f refl)
+    clear_pending e f = via x (pick_false _ _ _ _ (no_false _ e) (pick_true _ _ _ _ f refl))
 
-    pub clear_done : is_clear split ≡ true → is_owed b ≡ false → reacts EndsSplit (SUCCESS ∷ 0 ∷ []) ≡ check_clear b split
+    pub clear_done : is_clear split ≡ true → is_owed b ≡ false → x ≡ control_of (reacts EndsSplit (SUCCESS ∷ 0 ∷ [])) → x ≡ control_of (check_clear b split)
     unfolding check_clear
-    clear_done e f = pick_false _ _ _ _ (no_false _ e) (pick_false _ _ _ _ f refl)
+    clear_done e f = via x (pick_false _ _ _ _ (no_false _ e) (pick_false _ _ _ _ f refl))
 
-    pub clear_wrong : is_clear split ≡ false → answering (SPLIT_NOT_IN_PROGRESS ∷ 0 ∷ []) ≡ check_clear b split
+    pub clear_wrong : is_clear split ≡ false → x ≡ control_of (answering (SPLIT_NOT_IN_PROGRESS ∷ 0 ∷ [])) → x ≡ control_of (check_clear b split)
     unfolding check_clear
-    clear_wrong e = pick_true _ _ _ _ (no_true _ e) refl
+    clear_wrong e = via x (pick_true _ _ _ _ (no_true _ e) refl)
 
 -- INITIATE_CLEAR
-module _ (split : Split) where
-  pub clear_busy : is_clear split ≡ true → answering (SPLIT_IN_PROGRESS ∷ []) ≡ initiate_clear split
+module _ (x : Control) (split : Split) where
+  pub clear_busy : is_clear split ≡ true → x ≡ control_of (answering (SPLIT_IN_PROGRESS ∷ [])) → x ≡ control_of (initiate_clear split)
   unfolding initiate_clear
-  clear_busy e = pick_true _ _ _ _ e refl
+  clear_busy e = via x (pick_true _ _ _ _ e refl)
 
-  pub clear_begins : is_clear split ≡ false → reacts Clears (SUCCESS ∷ []) ≡ initiate_clear split
+  pub clear_begins : is_clear split ≡ false → x ≡ control_of (reacts Clears (SUCCESS ∷ [])) → x ≡ control_of (initiate_clear split)
   unfolding initiate_clear
-  clear_begins e = pick_false _ _ _ _ e refl
+  clear_begins e = via x (pick_false _ _ _ _ e refl)
+
+pub ruleset splits = (abort_pending, abort_ended, clear_pending, clear_done, clear_wrong, clear_busy, clear_begins, tests)
+
+-- INITIATE_ABORT
+module _ (x : Control) (split : Split) (is_open : Bool) (own tag : ℕ) (effect : Effect) (told : Result (Unit {0}) ℕ) (is : told ≡ gate (abort_rules split is_open own tag)) where
+  abbrev decision : Reaction
+  decision = decide (λ status. answering (status ∷ own ∷ [])) (abort_rules split is_open own tag) (reacts effect (SUCCESS ∷ own ∷ []))
+
+  pub abort_refused : (status : ℕ) → told ≡ Err status → x ≡ control_of (answering (status ∷ own ∷ [])) → x ≡ control_of decision
+  abort_refused status e = via x (refuses (λ (n : ℕ). answering (n ∷ own ∷ [])) (abort_rules split is_open own tag) _ told is status e)
+
+  pub abort_begins : told ≡ Ok tt → x ≡ control_of (reacts effect (SUCCESS ∷ own ∷ [])) → x ≡ control_of decision
+  abort_begins e = via x (passes (λ (n : ℕ). answering (n ∷ own ∷ [])) (abort_rules split is_open own tag) _ told is e)

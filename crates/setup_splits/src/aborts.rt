@@ -1,66 +1,73 @@
 // The aborts of both sides: INITIATE_ABORT and CHECK_ABORT.
-ghost use Rattle.std.specs.Prelude.{◌≡◌, ℕ};
-ghost use Rattle.rules.specs.Choice.{first};
-ghost use Rattle.port.specs.Rows.{abort_rules, in_tag, wrong_split, abort_ends, initiate_abort_out, initiate_abort_in, check_abort_out, check_abort_in};
+ghost use Rattle.std.specs.Prelude.{◌≡◌, ◌∷◌, [], ℕ};
+ghost use Rattle.rules.specs.Answers.{SUCCESS};
+ghost use Rattle.rules.specs.Choice.{gate, decide};
+ghost use Rattle.port.specs.Rows.{abort_rules, answering, reacts, in_tag, wrong_split, abort_ends, initiate_abort_out, initiate_abort_in};
+ghost use Rattle.port.specs.Rows.{check_abort_out, check_abort_in};
 ghost use Rattle.setup_splits.specs.Control.{control_of};
 
-use crate::reacts::{reacts_2, reacts_abort};
+use crate::reacts::{reacts, reacts_abort};
 use crate::types::Control;
-use port::types::{BulkIn, CLOSED, Effect, OWED, Split, State};
+use port::types::{BulkIn, Effect, OWED, Split, State};
 use rules::{
     FAILED, PENDING, SPLIT_IN_PROGRESS, SPLIT_NOT_IN_PROGRESS, SUCCESS, TRANSFER_NOT_IN_PROGRESS,
 };
 use state_parts::parts::{is_none, is_open_in, is_open_out};
 
-// The first of 83, 80 and 81 that applies to an INITIATE_ABORT, or 0.
-fn abort_gate(split: Split, is_open: bool, own: u8, tag: u8) -> u8
-    ensures { result ≡ first (abort_rules split is_open own tag) 0 }
+// The first of 83, 80 and 81 that applies to an INITIATE_ABORT is its status: the byte that the answer has.
+#[tactic(auto, using(rules::proofs::Choice::picks))]
+fn abort_gate(split: Split, is_open: bool, own: u8, tag: u8) -> Result<(), u8>
+    ensures { result ≡ gate (abort_rules split is_open own tag) }
 {
-    if is_none(split) {
-        if is_open {
-            if tag != own {
-                return TRANSFER_NOT_IN_PROGRESS;
-            }
-            return 0;
-        }
-        return FAILED;
+    if !is_none(split) {
+        return Err(SPLIT_IN_PROGRESS);
     }
-    SPLIT_IN_PROGRESS
+    if !is_open {
+        return Err(FAILED);
+    }
+    if tag != own {
+        return Err(TRANSFER_NOT_IN_PROGRESS);
+    }
+    Ok(())
 }
 
+// INITIATE_ABORT of the side whose tag is `own`.
+fn initiate_abort(split: Split, is_open: bool, own: u8, tag: u8, effect: Effect) -> Control
+    ensures { result ≡ control_of (decide (λ status. answering (status ∷ own ∷ []))
+        (abort_rules split is_open own tag) (reacts effect (SUCCESS ∷ own ∷ []))) }
+{
+    match abort_gate(split, is_open, own, tag) {
+        Ok(()) => reacts(effect, [SUCCESS, own]),
+        Err(status) => reacts(Effect::Stays, [status, own]),
+    }
+}
+
+#[tactic(auto, unfolding(port::specs::Rows::initiate_abort_out))]
 pub fn initiate_abort_out(st: State, tag: u8) -> Control
     ensures { result ≡ control_of (initiate_abort_out st tag) }
 {
     let o = st.small.bulkout;
-    let split = st.split;
-    let status = abort_gate(split, is_open_out(o), o.recent, tag);
-    if status != 0 {
-        return reacts_2(Effect::Stays, status, o.recent);
-    }
-    reacts_2(Effect::AbortsOut, SUCCESS, o.recent)
+    initiate_abort(st.split, is_open_out(o), o.recent, tag, Effect::AbortsOut)
 }
 
 // The open transfer's tag, else the most recent one.
+#[tactic(auto, using(rules::proofs::Choice::picks))]
 fn in_tag(b: BulkIn) -> u8
     ensures { result ≡ in_tag b }
 {
-    if b.transfer.phase != CLOSED {
-        return b.transfer.tag;
+    if is_open_in(b) {
+        b.transfer.tag
+    } else {
+        b.recent
     }
-    b.recent
 }
 
+#[tactic(auto, unfolding(port::specs::Rows::initiate_abort_in))]
 pub fn initiate_abort_in(st: State, tag: u8) -> Control
     ensures { result ≡ control_of (initiate_abort_in st tag) }
 {
     let b = st.small.bulkin;
-    let split = st.split;
-    let own = in_tag(b);
-    let status = abort_gate(split, is_open_in(b), own, tag);
-    if status != 0 {
-        return reacts_2(Effect::Stays, status, own);
-    }
-    reacts_2(Effect::AbortsIn, SUCCESS, own)
+    initiate_abort(st.split, is_open_in(b), in_tag(b), tag, Effect::AbortsIn)
 }
 
 fn wrong_split() -> Control
@@ -76,34 +83,34 @@ fn abort_ends(count: u16) -> Control
     reacts_abort(Effect::EndsSplit, SUCCESS, 0, count)
 }
 
+#[tactic(auto, unfolding(port::specs::Rows::check_abort_out))]
 pub fn check_abort_out(split: Split) -> Control
     ensures { result ≡ control_of (check_abort_out split) }
 {
     match split {
-        Split::None => wrong_split(),
         Split::AbortOut { count } => abort_ends(count),
-        Split::AbortIn { count: _ } => wrong_split(),
-        Split::Clear => wrong_split(),
+        Split::None | Split::AbortIn { .. } | Split::Clear => wrong_split(),
     }
 }
 
 // CHECK of the abort-IN in progress: pending while its packet is owed.
+#[tactic(auto, using(crate::proofs::SplitLaws::splits))]
 fn abort_in_status(b: BulkIn, count: u16) -> Control
     ensures { result ≡ control_of (check_abort_in b (Split.AbortIn count)) }
 {
     if b.transfer.phase == OWED {
-        return reacts_abort(Effect::Stays, PENDING, 1, 0);
+        reacts_abort(Effect::Stays, PENDING, 1, 0)
+    } else {
+        abort_ends(count)
     }
-    abort_ends(count)
 }
 
+#[tactic(auto, unfolding(port::specs::Rows::check_abort_in))]
 pub fn check_abort_in(b: BulkIn, split: Split) -> Control
     ensures { result ≡ control_of (check_abort_in b split) }
 {
     match split {
-        Split::None => wrong_split(),
-        Split::AbortOut { count: _ } => wrong_split(),
         Split::AbortIn { count } => abort_in_status(b, count),
-        Split::Clear => wrong_split(),
+        Split::None | Split::AbortOut { .. } | Split::Clear => wrong_split(),
     }
 }

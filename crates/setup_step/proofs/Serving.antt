@@ -7,7 +7,9 @@ use native.Mathlib.Omega.{arith}
 use lib.ListN.{length, drop, replicate, length-append}
 use lib.Seq.{paste, take_at}
 use borrow.Author.Tests.{ltb-false}
-use Rattle.rules.specs.Choice.{◌<ᵇ◌, ◌≠ᵇ◌, first}
+use Rattle.std.specs.Prelude.{Option, Some, None}
+use Rattle.rules.specs.Choice.{◌<ᵇ◌, ◌≠ᵇ◌, gate}
+use Rattle.rules.specs.declared.refusal.Refusal.{Refusal}
 use Rattle.rules.proofs.Choice.{neb_eq, none_left, none_right, none_of, pick_all, decide_all, refuses, passes}
 use Rattle.wire.specs.Bytes.{bytes4, into}
 use Rattle.wire.specs.Setup.{SETUP, CONTROL, read_setup}
@@ -16,7 +18,7 @@ use Rattle.wire.specs.declared.types.Row.TheVariants.{InitiateAbortBulkOut, Chec
 use Rattle.wire.specs.declared.types.Row.TheVariants.{InitiateClear, CheckClearStatus, GetCapabilities, IndicatorPulse, ReadStatusByte}
 use Rattle.wire.specs.declared.types.Row.TheVariants.{RenControl, GoToLocal, LocalLockout, ClearFeature, SetFeature, GetStatus}
 use Rattle.wire.specs.declared.types.Setup.{Setup}
-use Rattle.wire.specs.declared.types.Setup.TheVariants.{Configure, Asks, NoRow}
+use Rattle.wire.specs.declared.types.Setup.TheVariants.{Configure, Asks}
 use Rattle.wire.proofs.Fronts.{front_pasted}
 use Rattle.port.specs.Parts.{is_open_out, is_open_in, is_owed, is_clear, out_of, in_of, interrupt_of, is_configured}
 use Rattle.port.specs.Interrupt.{is_waiting}
@@ -25,8 +27,8 @@ use Rattle.port.specs.Rows.{check_abort_out, check_abort_in, initiate_clear, che
 use Rattle.port.specs.Calls.{setup_rules, asked, setup_outcome}
 use Rattle.port.specs.declared.types.Split.{Split}
 use Rattle.port.specs.declared.types.Split.TheVariants.{None, AbortOut, AbortIn, Clear}
-use Rattle.port.specs.declared.types.SetupOutcome.{SetupOutcome}
-use Rattle.port.specs.declared.types.SetupOutcome.TheVariants.{Denies, Renews, Answers}
+use Rattle.port.specs.Answer.{SetupOutcome}
+use Rattle.std.specs.Prelude.{Result, Ok, Err}
 use Rattle.port.specs.declared.types.State.{State}
 
 -- ** no answer is longer than 24 bytes
@@ -83,34 +85,34 @@ copied b bytes =
 
 -- ** the two ways of a setup packet
 
-module _ (st : State) (s : List ℕ) (room n : ℕ) (gate : n ≡ first (setup_rules (length s) room) 0) where
-  pub setup_denied : (n ≡ 0 → ⊥) → Denies n ≡ setup_outcome st s room
+module _ (st : State) (s : List ℕ) (room : ℕ) (told : Result (Unit {0}) Refusal) (is : told ≡ gate (setup_rules (length s) room)) where
+  pub setup_denied : (r : Refusal) → told ≡ Err r → Err r ≡ setup_outcome st s room
   unfolding setup_outcome
-  setup_denied e = refuses Denies (setup_rules (length s) room) _ n tt gate e
+  setup_denied r e = refuses Err (setup_rules (length s) room) _ told is r e
 
-  pub setup_asked : n ≡ 0 → asked st (read_setup s) ≡ setup_outcome st s room
+  pub setup_asked : told ≡ Ok tt → asked st (read_setup s) ≡ setup_outcome st s room
   unfolding setup_outcome
-  setup_asked e = passes Denies (setup_rules (length s) room) _ n tt gate e
+  setup_asked e = passes Err (setup_rules (length s) room) _ told is e
 
-  pub setup_long : n ≡ 0 → length s ≡ SETUP
-  setup_long e = neb_eq _ _ (none_left (length s ≠ᵇ SETUP) (room <ᵇ CONTROL) (none_of (setup_rules (length s) room) n tt gate e).0)
+  pub setup_long : told ≡ Ok tt → length s ≡ SETUP
+  setup_long e = neb_eq _ _ (none_left (length s ≠ᵇ SETUP) (room <ᵇ CONTROL) (none_of (setup_rules (length s) room) told is e).0)
 
 -- a row is answered only into a buffer that is long enough
 abbrev Roomy : ℕ → SetupOutcome → Type 0
-Roomy room (Denies n) = Unit {0}
-Roomy room (Renews value) = Unit {0}
-Roomy room (Answers row) = CONTROL ≤ room
+Roomy room (Err n) = Unit {0}
+Roomy room (Ok (Configure value)) = Unit {0}
+Roomy room (Ok (Asks row)) = CONTROL ≤ room
 
-asked_roomy : (st : State) (x : Setup) (room : ℕ) → CONTROL ≤ room → Roomy room (asked st x)
+asked_roomy : (st : State) (x : Option Setup) (room : ℕ) → CONTROL ≤ room → Roomy room (asked st x)
 unfolding asked
-asked_roomy st (Configure value) room e = tt
-asked_roomy st (Asks row) room e = pick_all (Roomy room) (is_configured st) _ _ (λ _. e) (λ _. tt)
-asked_roomy st NoRow room e = tt
+asked_roomy st (Some (Configure value)) room e = tt
+asked_roomy st (Some (Asks row)) room e = pick_all (Roomy room) (is_configured st) _ _ (λ _. e) (λ _. tt)
+asked_roomy st None room e = tt
 
 outcome_roomy : (st : State) (s : List ℕ) (room : ℕ) → Roomy room (setup_outcome st s room)
 unfolding setup_outcome
 outcome_roomy st s room =
-    decide_all (Roomy room) Denies (setup_rules (length s) room) _ (tt, tt) (λ n. asked_roomy st (read_setup s) room (ltb-false room CONTROL (none_right (length s ≠ᵇ SETUP) _ n.0)))
+    decide_all (Roomy room) Err (setup_rules (length s) room) _ (tt, tt) (λ n. asked_roomy st (read_setup s) room (ltb-false room CONTROL (none_right (length s ≠ᵇ SETUP) _ n.0)))
 
-pub answers_roomy : (st : State) (s : List ℕ) (room : ℕ) (row : Row) → Answers row ≡ setup_outcome st s room → CONTROL ≤ room
+pub answers_roomy : (st : State) (s : List ℕ) (room : ℕ) (row : Row) → Ok (Asks row) ≡ setup_outcome st s room → CONTROL ≤ room
 answers_roomy st s room row e = rw (← e) at (outcome_roomy st s room)

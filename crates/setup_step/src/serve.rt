@@ -1,7 +1,7 @@
 // What a setup packet comes to, and an answered row with its bytes in the lent buffer.
-ghost use Rattle.std.specs.Prelude.{◌≡◌, ℕ, ◌≤◌, length};
-ghost use Rattle.rules.specs.Choice.{pick, first};
-ghost use Rattle.rules.specs.Answers.{UNSOUND};
+ghost use Rattle.std.specs.Prelude.{◌≡◌, ℕ, ◌≤◌, Err, length};
+ghost use Rattle.rules.specs.Choice.{pick, gate};
+ghost use Rattle.rules.specs.declared.refusal.Refusal.TheVariants.{Unsound};
 ghost use Rattle.wire.specs.Bytes.{into};
 ghost use Rattle.wire.specs.Setup.{CONTROL};
 ghost use Rattle.port.specs.Sound.{sound};
@@ -14,38 +14,32 @@ use crate::effects::effected;
 use crate::rows::answer_row;
 use crate::types::Replied;
 use port::types::{Given, SetupOutcome, State};
-use rules::{DONE, NO_ROW, UNSOUND, WRONG_SIZE};
+use rules::refusal::Refusal;
 use setup_read::setup::read_setup;
 use state_sound::sound::sound;
 use wire::types::{CONTROL, Row, SETUP, Setup};
 use wire_code::copies::copy_in;
 
-// 3 where the packet has not n = SETUP bytes or the control buffer too few, or 0.
-fn setup_gate(n: usize, room: usize) -> u8
-    ensures { result ≡ first (setup_rules n room) 0 }
+// A packet that has not n = SETUP bytes is refused, and a control buffer that has too few.
+#[tactic(auto, using(rules::proofs::Choice::picks))]
+fn setup_gate(n: usize, room: usize) -> Result<(), Refusal>
+    ensures { result ≡ gate (setup_rules n room) }
 {
-    if n != SETUP {
-        return WRONG_SIZE;
+    if n != SETUP || room < CONTROL {
+        return Err(Refusal::WrongSize);
     }
-    if room < CONTROL {
-        return WRONG_SIZE;
-    }
-    DONE
+    Ok(())
 }
 
 // A row is served by a configured unit alone, SET_CONFIGURATION by any.
-fn asked(st: State, x: Setup) -> SetupOutcome
+#[tactic(auto, using(rules::proofs::Choice::picks), unfolding(port::specs::Calls::asked))]
+fn asked(st: State, x: Option<Setup>) -> SetupOutcome
     ensures { result ≡ asked st x }
 {
     match x {
-        Setup::Configure { value } => SetupOutcome::Renews { value },
-        Setup::Asks { row } => {
-            if st.small.port.configured == 1 {
-                return SetupOutcome::Answers { row };
-            }
-            SetupOutcome::Denies { number: NO_ROW }
-        }
-        Setup::NoRow => SetupOutcome::Denies { number: NO_ROW },
+        Some(Setup::Asks { .. }) if st.small.port.configured != 1 => Err(Refusal::UnknownRow),
+        Some(asks) => Ok(asks),
+        None => Err(Refusal::UnknownRow),
     }
 }
 
@@ -53,21 +47,20 @@ fn asked(st: State, x: Setup) -> SetupOutcome
 pub fn setup_outcome(st: State, s: &[u8], room: usize) -> SetupOutcome
     ensures { result ≡ setup_outcome st s.now room }
 {
-    let number = setup_gate(s.len(), room);
-    if number != 0 {
-        return SetupOutcome::Denies { number };
-    }
+    setup_gate(s.len(), room)?;
     asked(st, read_setup(s))
 }
 
 // And on any.
+#[tactic(auto, using(rules::proofs::Choice::picks))]
 pub fn decided(st: State, s: &[u8], room: usize) -> SetupOutcome
-    ensures { result ≡ pick (sound st) (setup_outcome st s.now room) (SetupOutcome.Denies UNSOUND) }
+    ensures { result ≡ pick (sound st) (setup_outcome st s.now room) (Err Unsound) }
 {
     if sound(st) {
-        return setup_outcome(st, s, room);
+        setup_outcome(st, s, room)
+    } else {
+        Err(Refusal::Unsound)
     }
-    SetupOutcome::Denies { number: UNSOUND }
 }
 
 // A row is answered: its bytes go into the lent buffer.
@@ -76,15 +69,11 @@ pub fn reply(st: State, row: Row, b: &mut [u8]) -> Replied
     ensures { (result ≡ replied_of (answer_row st row)) × (b.new ≡ into (answer_row st row).answer.bytes b.old) }
 {
     let answer = answer_row(st, row);
-    let len = answer.len;
-    let bytes = answer.bytes;
-    copy_in(b, 0, &bytes, 0, len);
-    let effect = answer.effect;
-    let verdict = answer.verdict;
+    copy_in(b, 0, &answer.bytes, 0, answer.len);
     Replied {
-        effect,
-        verdict,
-        len,
+        effect: answer.effect,
+        verdict: answer.verdict,
+        len: answer.len,
     }
 }
 
@@ -94,11 +83,9 @@ pub fn row_step(st: State, row: Row, b: &mut [u8]) -> Given
     ensures { Hands (reacted st (answer_row st row)) result b.old b.new }
 {
     let r = reply(st, row, b);
-    let effect = r.effect;
-    let verdict = r.verdict;
     Given {
-        state: effected(st, effect),
-        verdict,
+        state: effected(st, r.effect),
+        verdict: r.verdict,
         len: r.len,
     }
 }

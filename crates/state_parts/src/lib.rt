@@ -1,5 +1,5 @@
 // The small state by value, a part at a time.
 #![tactic(auto)]
 
-pub mod given; // a state and a number, with no bytes
+pub mod given; // why a call is refused, or that it is done, with no bytes
 pub mod parts; // one part set, and tests on one

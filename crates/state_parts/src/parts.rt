@@ -2,7 +2,7 @@
 ghost use Rattle.std.specs.Prelude.{◌≡◌, ℕ};
 ghost use Rattle.port.specs.Parts.{is_none, is_clear, keeps_halt, is_open_out, is_open_in, with_port, with_out, with_in, with_interrupt, with_split};
 ghost use Rattle.port.specs.Parts.{with_remote, with_ren, holding, carrying, with_in_halted, with_status, with_waiting, with_interrupt_halted};
-ghost use Rattle.port.specs.Parts.{no_message, closed_out, no_reply, transfer_in, closed_in, asked_in, sending_in};
+ghost use Rattle.port.specs.Parts.{no_message, closed_out, no_reply, closed_in, asked_in, sending_in};
 ghost use Rattle.port.specs.Parts.{owed_in, empty_out, empty_in, no_packet, fresh, unbroken, broken, shut};
 
 use port::types::{
@@ -10,81 +10,64 @@ use port::types::{
     OutTransfer, Port, Remote, SENDING, Setting, Small, Split, State,
 };
 
-// The small parts set, the split and the remote/local state kept.
-fn with_small(st: State, small: Small) -> State
-    ensures { result ≡ record { small = small; split = st.split; remote = st.remote } }
-{
-    let split = st.split;
-    let remote = st.remote;
-    State {
-        small,
-        split,
-        remote,
-    }
-}
-
 pub fn with_port(st: State, port: Port) -> State
     ensures { result ≡ with_port st port }
 {
-    let mut small = st.small;
-    small.port = port;
-    with_small(st, small)
+    State {
+        small: Small { port, ..st.small },
+        ..st
+    }
 }
 
 pub fn with_out(st: State, bulkout: BulkOut) -> State
     ensures { result ≡ with_out st bulkout }
 {
-    let mut small = st.small;
-    small.bulkout = bulkout;
-    with_small(st, small)
+    State {
+        small: Small {
+            bulkout,
+            ..st.small
+        },
+        ..st
+    }
 }
 
 pub fn with_in(st: State, bulkin: BulkIn) -> State
     ensures { result ≡ with_in st bulkin }
 {
-    let mut small = st.small;
-    small.bulkin = bulkin;
-    with_small(st, small)
+    State {
+        small: Small { bulkin, ..st.small },
+        ..st
+    }
 }
 
 pub fn with_interrupt(st: State, interrupt: InterruptIn) -> State
     ensures { result ≡ with_interrupt st interrupt }
 {
-    let mut small = st.small;
-    small.interrupt = interrupt;
-    with_small(st, small)
+    State {
+        small: Small {
+            interrupt,
+            ..st.small
+        },
+        ..st
+    }
 }
 
 pub fn with_split(st: State, split: Split) -> State
     ensures { result ≡ with_split st split }
 {
-    let small = st.small;
-    let remote = st.remote;
-    State {
-        small,
-        split,
-        remote,
-    }
+    State { split, ..st }
 }
 
 pub fn with_remote(st: State, remote: Remote) -> State
     ensures { result ≡ with_remote st remote }
 {
-    let small = st.small;
-    let split = st.split;
-    State {
-        small,
-        split,
-        remote,
-    }
+    State { remote, ..st }
 }
 
 pub fn with_ren(p: Port, ren: u8) -> Port
     ensures { result ≡ with_ren p ren }
 {
-    let mut next = p;
-    next.ren = ren;
-    next
+    Port { ren, ..p }
 }
 
 // The message and the transfer of Bulk-OUT set, and the reply and the transfer of Bulk-IN.
@@ -94,8 +77,7 @@ pub fn holding(o: BulkOut, message: OutMessage, transfer: OutTransfer) -> BulkOu
     BulkOut {
         message,
         transfer,
-        halted: o.halted,
-        recent: o.recent,
+        ..o
     }
 }
 
@@ -105,41 +87,32 @@ pub fn carrying(b: BulkIn, reply: InReply, transfer: InTransfer) -> BulkIn
     BulkIn {
         reply,
         transfer,
-        halted: b.halted,
-        recent: b.recent,
+        ..b
     }
 }
 
 pub fn with_in_halted(b: BulkIn, halted: u8) -> BulkIn
     ensures { result ≡ with_in_halted b halted }
 {
-    let mut next = b;
-    next.halted = halted;
-    next
+    BulkIn { halted, ..b }
 }
 
 pub fn with_status(i: InterruptIn, status: u8) -> InterruptIn
     ensures { result ≡ with_status i status }
 {
-    let mut next = i;
-    next.status = status;
-    next
+    InterruptIn { status, ..i }
 }
 
 pub fn with_waiting(i: InterruptIn, waiting: Notify) -> InterruptIn
     ensures { result ≡ with_waiting i waiting }
 {
-    let mut next = i;
-    next.waiting = waiting;
-    next
+    InterruptIn { waiting, ..i }
 }
 
 pub fn with_interrupt_halted(i: InterruptIn, halted: u8) -> InterruptIn
     ensures { result ≡ with_interrupt_halted i halted }
 {
-    let mut next = i;
-    next.halted = halted;
-    next
+    InterruptIn { halted, ..i }
 }
 
 // Nothing is held; no transfer is open on Bulk-OUT; no reply is stored; no packet waits on Interrupt-IN.
@@ -175,50 +148,53 @@ pub fn no_packet() -> Notify
 }
 
 // An IN transfer in each of its phases.
-fn transfer_in(
-    phase: u8,
-    tag: u8,
-    asked: u16,
-    enabled: u8,
-    term: u8,
-    left: u16,
-    sent: u16,
-) -> InTransfer
-    ensures { result ≡ transfer_in phase tag asked enabled term left sent }
-{
-    InTransfer {
-        phase,
-        tag,
-        asked,
-        enabled,
-        term,
-        left,
-        sent,
-    }
-}
-
 pub fn closed_in() -> InTransfer
     ensures { result ≡ closed_in }
 {
-    transfer_in(CLOSED, 0, 0, 0, 0, 0, 0)
+    InTransfer {
+        phase: CLOSED,
+        tag: 0,
+        asked: 0,
+        enabled: 0,
+        term: 0,
+        left: 0,
+        sent: 0,
+    }
 }
 
-pub fn asked_in(tag: u8, asked: u16, enabled: u8, term: u8) -> InTransfer
-    ensures { result ≡ asked_in tag asked enabled term }
+pub fn asked_in(tag: u8, asked: u16, term: Option<u8>) -> InTransfer
+    ensures { result ≡ asked_in tag asked term }
 {
-    transfer_in(ASKED, tag, asked, enabled, term, 0, 0)
+    InTransfer {
+        phase: ASKED,
+        tag,
+        asked,
+        enabled: u8::from(term.is_some()),
+        term: term.unwrap_or(0),
+        ..closed_in()
+    }
 }
 
 pub fn sending_in(tag: u8, left: u16, sent: u16) -> InTransfer
     ensures { result ≡ sending_in tag left sent }
 {
-    transfer_in(SENDING, tag, 0, 0, 0, left, sent)
+    InTransfer {
+        phase: SENDING,
+        tag,
+        left,
+        sent,
+        ..closed_in()
+    }
 }
 
 pub fn owed_in(tag: u8) -> InTransfer
     ensures { result ≡ owed_in tag }
 {
-    transfer_in(OWED, tag, 0, 0, 0, 0, 0)
+    InTransfer {
+        phase: OWED,
+        tag,
+        ..closed_in()
+    }
 }
 
 pub fn empty_out(halted: u8, recent: u8) -> BulkOut
@@ -244,25 +220,24 @@ pub fn empty_in(transfer: InTransfer, halted: u8, recent: u8) -> BulkIn
 }
 
 // Nothing but its setting, and whether it is configured.
+#[tactic(auto, unfolding(port::specs::Parts::fresh))]
 pub fn fresh(setting: Setting, configured: u8) -> State
     ensures { result ≡ fresh setting configured }
 {
-    let port = Port {
-        setting,
-        configured,
-        ren: 0,
-    };
-    let interrupt = InterruptIn {
-        status: 0,
-        waiting: no_packet(),
-        halted: 0,
-    };
     State {
         small: Small {
-            port,
+            port: Port {
+                setting,
+                configured,
+                ren: 0,
+            },
             bulkout: empty_out(0, 0),
             bulkin: empty_in(closed_in(), 0, 0),
-            interrupt,
+            interrupt: InterruptIn {
+                status: 0,
+                waiting: no_packet(),
+                halted: 0,
+            },
         },
         split: Split::None,
         remote: Remote::Locs,
@@ -270,85 +245,67 @@ pub fn fresh(setting: Setting, configured: u8) -> State
 }
 
 // What a break leaves of a message: all of one that is ready.
+#[tactic(auto, using(rules::proofs::Choice::picks))]
 pub fn unbroken(m: OutMessage) -> OutMessage
     ensures { result ≡ unbroken m }
 {
-    if m.ready == 1 {
-        return m;
-    }
-    no_message()
+    if m.ready == 1 { m } else { no_message() }
 }
 
 // A halt of Bulk-OUT drops what is open and unfinished; so does the end of one.
+#[tactic(auto, unfolding(port::specs::Parts::broken))]
 pub fn broken(halted: u8, o: BulkOut) -> BulkOut
     ensures { result ≡ broken halted o }
 {
-    let message = o.message;
     BulkOut {
-        message: unbroken(message),
+        message: unbroken(o.message),
         transfer: closed_out(),
         halted,
-        recent: o.recent,
+        ..o
     }
 }
 
 // The IN transfer closes; what is unsent stays.
+#[tactic(auto, unfolding(port::specs::Parts::shut))]
 pub fn shut(b: BulkIn) -> BulkIn
     ensures { result ≡ shut b }
 {
-    let reply = b.reply;
-    carrying(b, reply, closed_in())
+    BulkIn {
+        transfer: closed_in(),
+        ..b
+    }
 }
 
 // A transfer is open on Bulk-OUT, and on Bulk-IN.
+#[tactic(auto, using(rules::proofs::Choice::picks))]
 pub fn is_open_out(o: BulkOut) -> bool
     ensures { result ≡ is_open_out o }
 {
-    if o.transfer.left == 0 {
-        return false;
-    }
-    true
+    o.transfer.left != 0
 }
 
+#[tactic(auto, using(rules::proofs::Choice::picks))]
 pub fn is_open_in(b: BulkIn) -> bool
     ensures { result ≡ is_open_in b }
 {
-    if b.transfer.phase == CLOSED {
-        return false;
-    }
-    true
+    b.transfer.phase != CLOSED
 }
 
 pub fn is_none(split: Split) -> bool
     ensures { result ≡ is_none split }
 {
-    match split {
-        Split::None => true,
-        Split::AbortOut { count: _ } => false,
-        Split::AbortIn { count: _ } => false,
-        Split::Clear => false,
-    }
+    matches!(split, Split::None)
 }
 
 pub fn is_clear(split: Split) -> bool
     ensures { result ≡ is_clear split }
 {
-    match split {
-        Split::None => false,
-        Split::AbortOut { count: _ } => false,
-        Split::AbortIn { count: _ } => false,
-        Split::Clear => true,
-    }
+    matches!(split, Split::Clear)
 }
 
 // A clear or an abort of Bulk-OUT keeps the halt of Bulk-OUT.
 pub fn keeps_halt(split: Split) -> bool
     ensures { result ≡ keeps_halt split }
 {
-    match split {
-        Split::None => false,
-        Split::AbortOut { count: _ } => true,
-        Split::AbortIn { count: _ } => false,
-        Split::Clear => true,
-    }
+    matches!(split, Split::Clear | Split::AbortOut { .. })
 }

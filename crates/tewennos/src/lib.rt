@@ -1,5 +1,5 @@
 // The port as C calls it: include/tewennos.h says what each function is for. A unit is bytes in C's memory, altered where they stand. Crate tewennos_c
-// exports the functions, each under its name here.
+// exports the functions, each under its name here: C can call no method, and no crate can export what another has.
 #![tactic(auto)]
 
 ghost use Rattle.std.specs.Prelude.{length};

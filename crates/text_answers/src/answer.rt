@@ -5,91 +5,77 @@ ghost use Rattle.text_answers.specs.Answer.{tells_text, verdict_text, done_text,
 
 use rules::verdict::Verdict;
 use rules::{DONE, TELLS_PULSE, TELLS_TRIGGER};
-use text_put::{put, put_byte, put_decimal, put_hex};
+use text_put::{Page, first_part};
 
 // What a lent buffer is filled with before a call.
 pub const FILL: u8 = 0xa5;
 
-fn put_tells(out: &mut [u8], at: usize, tells: u8) -> usize
-    ensures { (out.new, result) ≡ typed (out.old, at) (tells_text tells) }
+#[tactic(auto, using(text_put::proofs::Text::typing), unfolding(crate::specs::Answer::tells_text))]
+fn put_tells(page: &mut Page, tells: u8)
+    ensures { page.new ≡ typed page.old (tells_text tells) }
 {
-    if tells == TELLS_TRIGGER {
-        return put(out, at, b" trigger");
+    match tells {
+        TELLS_TRIGGER => page.put(b" trigger"),
+        TELLS_PULSE => page.put(b" pulse"),
+        _ => {}
     }
-    if tells == TELLS_PULSE {
-        return put(out, at, b" pulse");
-    }
-    at
 }
 
-fn put_verdict(out: &mut [u8], at: usize, verdict: Verdict) -> usize
-    ensures { (out.new, result) ≡ typed (out.old, at) (verdict_text verdict) }
+#[tactic(auto, using(text_put::proofs::Text::typing), unfolding(crate::specs::Answer::verdict_text))]
+fn put_verdict(page: &mut Page, verdict: Verdict)
+    ensures { page.new ≡ typed page.old (verdict_text verdict) }
 {
-    let next = put_decimal(out, at, verdict.number as u16);
-    put_tells(out, next, verdict.tells)
+    page.put_decimal(u16::from(verdict.number));
+    put_tells(page, verdict.tells);
 }
 
 // The answer to a call that is lent no buffer.
-pub fn put_done(out: &mut [u8], at: usize, verdict: Verdict) -> usize
-    ensures { (out.new, result) ≡ typed (out.old, at) (done_text verdict) }
+#[tactic(auto, using(text_put::proofs::Text::typing), unfolding(crate::specs::Answer::done_text))]
+pub fn put_done(page: &mut Page, verdict: Verdict)
+    ensures { page.new ≡ typed page.old (done_text verdict) }
 {
-    let next = put_verdict(out, at, verdict);
-    put_byte(out, next, b'\n')
+    put_verdict(page, verdict);
+    page.put_byte(b'\n');
 }
 
 // Is each byte as it was filled?
 fn is_filled(bytes: &[u8]) -> bool
     ensures { result ≡ filled bytes.now }
 {
-    let mut i: usize = 0;
-    while i < bytes.len() {
-        if bytes[i] != FILL {
-            return false;
-        }
-        i += 1;
-    }
-    true
+    bytes.iter().all(|&b| b == FILL)
 }
 
 // Is each byte past an answer of `len` bytes as it was filled?
+#[tactic(auto, using(crate::proofs::Filled::behind))]
 fn is_filled_behind(buffer: &[u8], len: usize) -> bool
     ensures { result ≡ filled_behind buffer.now len }
 {
-    if len <= buffer.len() {
-        return is_filled(&buffer[len..]);
-    }
-    false
-}
-
-// The first `len` bytes of a buffer, or all where there are fewer.
-fn written(buffer: &[u8], len: usize) -> &[u8]
-    ensures { result.now ≡ take len buffer.now }
-{
-    if len <= buffer.len() {
-        return &buffer[0..len];
-    }
-    buffer
+    len <= buffer.len() && is_filled(&buffer[len..])
 }
 
 // The end of an answer, with a word where the call has written what it was not to write.
-fn put_end(out: &mut [u8], at: usize, whole: bool) -> usize
-    ensures { (out.new, result) ≡ typed (out.old, at) (end_text whole) }
+#[tactic(auto, using(text_put::proofs::Text::typing), unfolding(crate::specs::Answer::end_text))]
+fn put_end(page: &mut Page, whole: bool)
+    ensures { page.new ≡ typed page.old (end_text whole) }
 {
     if whole {
-        return put_byte(out, at, b'\n');
+        page.put_byte(b'\n');
+    } else {
+        page.put(b" spilled\n");
     }
-    put(out, at, b" spilled\n")
 }
 
 // The answer to a call that was lent a buffer, of which it wrote `len` bytes if it is answered 0.
-pub fn put_told(out: &mut [u8], at: usize, verdict: Verdict, len: usize, buffer: &[u8]) -> usize
-    ensures { (out.new, result) ≡ typed (out.old, at) (told_text verdict len buffer.now) }
+#[tactic(auto, using(text_put::proofs::Text::typing), unfolding(crate::specs::Answer::told_text))]
+pub fn put_told(page: &mut Page, verdict: Verdict, len: usize, buffer: &[u8])
+    ensures { page.new ≡ typed page.old (told_text verdict len buffer.now) }
 {
-    let next = put_verdict(out, at, verdict);
-    if verdict.number != DONE {
-        return put_end(out, next, is_filled(buffer));
+    put_verdict(page, verdict);
+    if verdict.number == DONE {
+        page.put_byte(b' ');
+        page.put_hex(first_part(buffer, len));
+        put_end(page, is_filled_behind(buffer, len));
+    } else {
+        put_end(page, is_filled(buffer));
     }
-    let mark = put_byte(out, next, b' ');
-    let end = put_hex(out, mark, written(buffer, len));
-    put_end(out, end, is_filled_behind(buffer, len))
 }

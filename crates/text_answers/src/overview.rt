@@ -6,16 +6,14 @@ ghost use Rattle.text_answers.specs.Overview.{port_text, halts_text, message_tex
 ghost use Rattle.text_answers.specs.Overview.{notify_text, more_text};
 
 use port::types::{OWED, Remote, Small, Split};
-use text_put::{put, put_byte, put_decimal, put_pair};
+use text_put::Page;
 
 // 0 or 1.
-fn put_flag(out: &mut [u8], at: usize, flag: bool) -> usize
-    ensures { (out.new, result) ≡ typed (out.old, at) (flag_text flag) }
+#[tactic(auto, using(text_put::proofs::Text::typing), unfolding(crate::specs::Overview::flag_text))]
+fn put_flag(page: &mut Page, flag: bool)
+    ensures { page.new ≡ typed page.old (flag_text flag) }
 {
-    if flag {
-        return put_byte(out, at, b'1');
-    }
-    put_byte(out, at, b'0')
+    page.put_byte(if flag { b'1' } else { b'0' });
 }
 
 fn remote_name(remote: Remote) -> [u8; 4]
@@ -29,141 +27,146 @@ fn remote_name(remote: Remote) -> [u8; 4]
     }
 }
 
-fn put_split(out: &mut [u8], at: usize, split: Split) -> usize
-    ensures { (out.new, result) ≡ typed (out.old, at) (split_text split) }
+fn put_split(page: &mut Page, split: Split)
+    ensures { page.new ≡ typed page.old (split_text split) }
 {
     match split {
-        Split::None => put(out, at, b" split=none"),
-        Split::AbortOut { count: _ } => put(out, at, b" split=abort-out"),
-        Split::AbortIn { count: _ } => put(out, at, b" split=abort-in"),
-        Split::Clear => put(out, at, b" split=clear"),
+        Split::None => page.put(b" split=none"),
+        Split::AbortOut { count: _ } => page.put(b" split=abort-out"),
+        Split::AbortIn { count: _ } => page.put(b" split=abort-in"),
+        Split::Clear => page.put(b" split=clear"),
     }
 }
 
-fn put_halted(out: &mut [u8], at: usize, halted: u8) -> usize
-    ensures { (out.new, result) ≡ typed (out.old, at) (halted_text halted) }
+#[tactic(auto, using(text_put::proofs::Text::typing), unfolding(crate::specs::Overview::halted_text))]
+fn put_halted(page: &mut Page, halted: u8)
+    ensures { page.new ≡ typed page.old (halted_text halted) }
 {
     if halted == 1 {
-        return put(out, at, b"halted");
+        page.put(b"halted");
+    } else {
+        page.put(b"running");
     }
-    put(out, at, b"running")
 }
 
 // The message that Bulk-OUT brings: whole, a part of one, or none.
-fn put_message(out: &mut [u8], at: usize, ready: u8, held: u16, left: u16) -> usize
-    ensures { (out.new, result) ≡ typed (out.old, at) (message_text ready held left) }
+#[tactic(auto, using(text_put::proofs::Text::typing), unfolding(crate::specs::Overview::message_text))]
+fn put_message(page: &mut Page, ready: u8, held: u16, left: u16)
+    ensures { page.new ≡ typed page.old (message_text ready held left) }
 {
     if ready == 1 {
-        let next = put(out, at, b" message=ready:");
-        return put_decimal(out, next, held);
+        page.put(b" message=ready:");
+        page.put_decimal(held);
+    } else if held != 0 {
+        page.put(b" message=part:");
+        page.put_decimal(held);
+    } else if left != 0 {
+        page.put(b" message=part:0");
+    } else {
+        page.put(b" message=none");
     }
-    if held != 0 {
-        let next = put(out, at, b" message=part:");
-        return put_decimal(out, next, held);
-    }
-    if left != 0 {
-        return put(out, at, b" message=part:0");
-    }
-    put(out, at, b" message=none")
 }
 
-fn put_port(out: &mut [u8], at: usize, configured: u8, ren: u8, remote: Remote, status: u8) -> usize
-    ensures { (out.new, result) ≡ typed (out.old, at) (port_text configured ren remote status) }
+#[tactic(auto, using(text_put::proofs::Text::typed_then), unfolding(crate::specs::Overview::port_text))]
+fn put_port(page: &mut Page, configured: u8, ren: u8, remote: Remote, status: u8)
+    ensures { page.new ≡ typed page.old (port_text configured ren remote status) }
 {
-    let name = remote_name(remote);
-    let at = put(out, at, b"0 configured=");
-    let at = put_flag(out, at, configured == 1);
-    let at = put(out, at, b" ren=");
-    let at = put_flag(out, at, ren == 1);
-    let at = put(out, at, b" remote=");
-    let at = put(out, at, &name);
-    let at = put(out, at, b" status=");
-    put_pair(out, at, status)
+    page.put(b"0 configured=");
+    put_flag(page, configured == 1);
+    page.put(b" ren=");
+    put_flag(page, ren == 1);
+    page.put(b" remote=");
+    page.put(&remote_name(remote));
+    page.put(b" status=");
+    page.put_pair(status);
 }
 
-fn put_halts(out: &mut [u8], at: usize, halted_out: u8, halted_in: u8) -> usize
-    ensures { (out.new, result) ≡ typed (out.old, at) (halts_text halted_out halted_in) }
+#[tactic(auto, using(text_put::proofs::Text::typing), unfolding(crate::specs::Overview::halts_text))]
+fn put_halts(page: &mut Page, halted_out: u8, halted_in: u8)
+    ensures { page.new ≡ typed page.old (halts_text halted_out halted_in) }
 {
-    let at = put(out, at, b" out=");
-    let at = put_halted(out, at, halted_out);
-    let at = put(out, at, b" in=");
-    put_halted(out, at, halted_in)
+    page.put(b" out=");
+    put_halted(page, halted_out);
+    page.put(b" in=");
+    put_halted(page, halted_in);
 }
 
-fn put_tags(out: &mut [u8], at: usize, recent_out: u8, recent_in: u8) -> usize
-    ensures { (out.new, result) ≡ typed (out.old, at) (tags_text recent_out recent_in) }
+#[tactic(auto, using(text_put::proofs::Text::typing), unfolding(crate::specs::Overview::tags_text))]
+fn put_tags(page: &mut Page, recent_out: u8, recent_in: u8)
+    ensures { page.new ≡ typed page.old (tags_text recent_out recent_in) }
 {
-    let at = put(out, at, b" tags=");
-    let at = put_pair(out, at, recent_out);
-    let at = put_byte(out, at, b',');
-    put_pair(out, at, recent_in)
+    page.put(b" tags=");
+    page.put_pair(recent_out);
+    page.put_byte(b',');
+    page.put_pair(recent_in);
 }
 
 // The bytes of the reply that have not gone, the split in progress, and whether the empty packet is owed.
-fn put_reply(out: &mut [u8], at: usize, unsent: u16, split: Split, owed: bool) -> usize
-    ensures { (out.new, result) ≡ typed (out.old, at) (reply_text unsent split owed) }
+#[tactic(auto, using(text_put::proofs::Text::typing), unfolding(crate::specs::Overview::reply_text))]
+fn put_reply(page: &mut Page, unsent: u16, split: Split, owed: bool)
+    ensures { page.new ≡ typed page.old (reply_text unsent split owed) }
 {
-    let at = put(out, at, b" reply=");
-    let at = put_decimal(out, at, unsent);
-    let at = put_split(out, at, split);
-    let at = put(out, at, b" owed=");
-    put_flag(out, at, owed)
+    page.put(b" reply=");
+    page.put_decimal(unsent);
+    put_split(page, split);
+    page.put(b" owed=");
+    put_flag(page, owed);
 }
 
-pub fn put_overview(out: &mut [u8], at: usize, small: Small, split: Split, remote: Remote) -> usize
-    ensures { (out.new, result) ≡ typed (out.old, at) (overview_text small split remote) }
+#[tactic(auto, using(text_put::proofs::Text::typing), unfolding(crate::specs::Overview::overview_text))]
+pub fn put_overview(page: &mut Page, small: Small, split: Split, remote: Remote)
+    ensures { page.new ≡ typed page.old (overview_text small split remote) }
 {
-    let at = put_port(
-        out,
-        at,
+    put_port(
+        page,
         small.port.configured,
         small.port.ren,
         remote,
         small.interrupt.status,
     );
-    let at = put_halts(out, at, small.bulkout.halted, small.bulkin.halted);
-    let at = put_message(
-        out,
-        at,
+    put_halts(page, small.bulkout.halted, small.bulkin.halted);
+    put_message(
+        page,
         small.bulkout.message.ready,
         small.bulkout.message.held,
         small.bulkout.transfer.left,
     );
-    let at = put_reply(
-        out,
-        at,
+    put_reply(
+        page,
         small.bulkin.reply.unsent,
         split,
         small.bulkin.transfer.phase == OWED,
     );
-    let at = put_tags(out, at, small.bulkout.recent, small.bulkin.recent);
-    put_byte(out, at, b'\n')
+    put_tags(page, small.bulkout.recent, small.bulkin.recent);
+    page.put_byte(b'\n');
 }
 
 // The packet that waits on Interrupt-IN, by its two bytes.
-fn put_notify(out: &mut [u8], at: usize, notify1: u8, notify2: u8) -> usize
-    ensures { (out.new, result) ≡ typed (out.old, at) (notify_text notify1 notify2) }
+#[tactic(auto, using(text_put::proofs::Text::typing), unfolding(crate::specs::Overview::notify_text))]
+fn put_notify(page: &mut Page, notify1: u8, notify2: u8)
+    ensures { page.new ≡ typed page.old (notify_text notify1 notify2) }
 {
     if notify1 == 0 {
-        return put(out, at, b" int=none");
+        page.put(b" int=none");
+    } else {
+        page.put(b" int=");
+        page.put_pair(notify1);
+        page.put_pair(notify2);
     }
-    let at = put(out, at, b" int=");
-    let at = put_pair(out, at, notify1);
-    put_pair(out, at, notify2)
 }
 
-pub fn put_more(out: &mut [u8], at: usize, small: Small) -> usize
-    ensures { (out.new, result) ≡ typed (out.old, at) (more_text small) }
+#[tactic(auto, using(text_put::proofs::Text::typed_then), unfolding(crate::specs::Overview::more_text))]
+pub fn put_more(page: &mut Page, small: Small)
+    ensures { page.new ≡ typed page.old (more_text small) }
 {
-    let at = put(out, at, b"0 p=");
-    let at = put_decimal(out, at, small.port.setting.packet);
-    let at = put_notify(
-        out,
-        at,
+    page.put(b"0 p=");
+    page.put_decimal(small.port.setting.packet);
+    put_notify(
+        page,
         small.interrupt.waiting.notify1,
         small.interrupt.waiting.notify2,
     );
-    let at = put(out, at, b" int-endpoint=");
-    let at = put_halted(out, at, small.interrupt.halted);
-    put_byte(out, at, b'\n')
+    page.put(b" int-endpoint=");
+    put_halted(page, small.interrupt.halted);
+    page.put_byte(b'\n');
 }

@@ -1,61 +1,59 @@
 -- What a word gives: a packet size, a buffer's length, bytes or a status byte; or why it cannot be read.
 -- Assumes nothing.
-use Rattle.std.specs.Prelude.{ℕ, List, get_or}
+use Rattle.std.specs.Prelude.{ℕ, List, length, get_or, Option, Some, None, Result, Ok, Err}
 use Rattle.rules.specs.Choice.{◌=ᵇ◌, pick}
 use Rattle.text_words.specs.Words.{is_missing}
-use Rattle.text_words.specs.Numbers.{read_decimal, read_hex, hex_bytes}
-use Rattle.text_words.specs.declared.numbers.ReadDecimal.{ReadDecimal}
-use Rattle.text_words.specs.declared.numbers.ReadDecimal.TheVariants.{Value, NotDecimal, TooLarge}
-use Rattle.text_words.specs.declared.numbers.ReadHex.{ReadHex}
-use Rattle.text_words.specs.declared.numbers.ReadHex.TheVariants.{Count, NotHex, Odd}
+use Rattle.text_words.specs.Numbers.{read_decimal, read_hex}
+use Rattle.text_words.specs.declared.numbers.DecimalError.{DecimalError}
+use Rattle.text_words.specs.declared.numbers.DecimalError.TheVariants.{NotDecimal, Above as TooLarge}
+use Rattle.text_words.specs.declared.numbers.HexError.{HexError}
+use Rattle.text_words.specs.declared.numbers.HexError.TheVariants.{NotHex, Odd}
+use Rattle.text_lines.specs.declared.given.Unread.{Unread}
 use Rattle.text_lines.specs.declared.given.Unread.TheVariants.{NoDecimal, Above, NoHexDigit, OddDigits, NoStatus}
-use Rattle.text_lines.specs.declared.given.Size.{Size}
-use Rattle.text_lines.specs.declared.given.Size.TheVariants.{Packet, NoSize}
-use Rattle.text_lines.specs.declared.given.Length.{Length}
-use Rattle.text_lines.specs.declared.given.Length.TheVariants.{Buffer, OfTheCall, NoLength}
-use Rattle.text_lines.specs.declared.given.Given.{Given}
-use Rattle.text_lines.specs.declared.given.Given.TheVariants.{Bytes, NoBytes}
-use Rattle.text_lines.specs.declared.given.Status.{Status}
-use Rattle.text_lines.specs.declared.given.Status.TheVariants.{Byte, NoByte}
+
+-- ** why a word cannot be read
+
+abbrev pub no_decimal : DecimalError → Unread
+no_decimal NotDecimal = NoDecimal
+no_decimal (TooLarge most) = Above most
+
+abbrev pub no_hex : HexError → Unread
+no_hex (NotHex b) = NoHexDigit b
+no_hex Odd = OddDigits
+
+-- what was read, or why it was not, by its error
+abbrev pub or_why : {A E : Type 0} → (E → Unread) → Result A E → Result A Unread
+or_why why (Ok x) = Ok x
+or_why why (Err e) = Err (why e)
+
+-- ** what a word gives
 
 -- a packet size, of two bytes
 abbrev pub LARGEST_SIZE : ℕ
 LARGEST_SIZE = 65535
 
-abbrev pub size_read : ReadDecimal → Size
-size_read (Value n) = Packet n
-size_read NotDecimal = NoSize NoDecimal
-size_read TooLarge = NoSize (Above LARGEST_SIZE)
-
-unfoldable pub size_of : List ℕ → Size
-size_of w = size_read (read_decimal LARGEST_SIZE w)
+unfoldable pub size_of : List ℕ → Result ℕ Unread
+size_of w = or_why no_decimal (read_decimal LARGEST_SIZE w)
 
 -- a buffer's length, "2,048 at most", or none where the word is missing
 abbrev pub LARGEST_BUFFER : ℕ
 LARGEST_BUFFER = 2048
 
-abbrev pub length_read : ReadDecimal → Length
-length_read (Value n) = Buffer n
-length_read NotDecimal = NoLength NoDecimal
-length_read TooLarge = NoLength (Above LARGEST_BUFFER)
+abbrev pub length_read : Result ℕ DecimalError → Result (Option ℕ) Unread
+length_read (Ok n) = Ok (Some n)
+length_read (Err e) = Err (no_decimal e)
 
-unfoldable pub length_of : List ℕ → Length
-length_of w = pick (is_missing w) OfTheCall (length_read (read_decimal LARGEST_BUFFER w))
+unfoldable pub length_of : List ℕ → Result (Option ℕ) Unread
+length_of w = pick (is_missing w) (Ok None) (length_read (read_decimal LARGEST_BUFFER w))
 
--- bytes: how many
-abbrev pub given_read : ReadHex → Given
-given_read (Count n) = Bytes n
-given_read (NotHex b) = NoBytes (NoHexDigit b)
-given_read Odd = NoBytes OddDigits
-
-unfoldable pub given_by : List ℕ → Given
-given_by w = given_read (read_hex w)
+-- bytes
+unfoldable pub given_by : List ℕ → Result (List ℕ) Unread
+given_by w = or_why no_hex (read_hex w)
 
 -- a status byte: one byte
-abbrev pub byte_read : ReadHex → List ℕ → Status
-byte_read (Count n) bytes = pick (n =ᵇ 1) (Byte (get_or bytes 0 0)) (NoByte NoStatus)
-byte_read (NotHex b) bytes = NoByte (NoHexDigit b)
-byte_read Odd bytes = NoByte OddDigits
+abbrev pub byte_read : Result (List ℕ) HexError → Result ℕ Unread
+byte_read (Ok s) = pick (length s =ᵇ 1) (Ok (get_or s 0 0)) (Err NoStatus)
+byte_read (Err e) = Err (no_hex e)
 
-unfoldable pub status_of : List ℕ → Status
-status_of w = byte_read (read_hex w) (hex_bytes w)
+unfoldable pub status_of : List ℕ → Result ℕ Unread
+status_of w = byte_read (read_hex w)

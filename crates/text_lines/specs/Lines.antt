@@ -1,27 +1,16 @@
 -- THE meaning of a line, beside vectors/README.md: one call with its arguments, nothing, or what is wrong with it.
 -- Assumes nothing.
-use Rattle.std.specs.Prelude.{ℕ, ◌+◌, List, [], ◌∷◌, length}
+use Rattle.std.specs.Prelude.{ℕ, ◌+◌, List, [], ◌∷◌, length, Option, Some, None, Result, Ok, Err}
 use Prim.Native.String.{String}
 use Rattle.rules.specs.Choice.{◌<ᵇ◌, no, pick, ◌⇒◌∣◌, first}
 use Rattle.text_put.specs.Text.{ascii}
 use Rattle.text_words.specs.Text.{same}
 use Rattle.text_words.specs.Words.{said, word, is_missing}
-use Rattle.text_words.specs.Numbers.{hex_bytes}
 use Rattle.text_lines.specs.Given.{size_of, length_of, given_by, status_of}
 use Rattle.text_lines.specs.declared.given.Unread.{Unread}
-use Rattle.text_lines.specs.declared.given.Size.{Size}
-use Rattle.text_lines.specs.declared.given.Size.TheVariants.{Packet, NoSize}
-use Rattle.text_lines.specs.declared.given.Length.{Length}
-use Rattle.text_lines.specs.declared.given.Length.TheVariants.{Buffer, OfTheCall, NoLength}
-use Rattle.text_lines.specs.declared.given.Given.{Given}
-use Rattle.text_lines.specs.declared.given.Given.TheVariants.{Bytes, NoBytes}
-use Rattle.text_lines.specs.declared.given.Status.{Status}
-use Rattle.text_lines.specs.declared.given.Status.TheVariants.{Byte, NoByte}
 use Rattle.text_lines.specs.declared.names.Name.{Name}
 use Rattle.text_lines.specs.declared.names.Name.TheVariants.{Power, Setup, Out, In, Interrupt, Take, Offer, Status as SetStatus}
 use Rattle.text_lines.specs.declared.names.Name.TheVariants.{Local, Reset, Suspend, State, More}
-use Rattle.text_lines.specs.declared.names.Named.{Named}
-use Rattle.text_lines.specs.declared.names.Named.TheVariants.{Known, Unknown}
 
 -- ** what a line can mean
 
@@ -58,35 +47,26 @@ pub data Meaning : Type 0 where
 
 -- ** what a word gives to a call
 
-abbrev pub by_size : List ℕ → Size → (ℕ → Meaning) → Meaning
-by_size w (Packet n) call = call n
-by_size w (NoSize why) call = wrong (unread w why)
+abbrev pub by : {A : Type 0} → List ℕ → Result A Unread → (A → Meaning) → Meaning
+by w (Ok x) call = call x
+by w (Err why) call = wrong (unread w why)
 
-abbrev pub by_length : List ℕ → Length → (Lent → Meaning) → Meaning
-by_length w (Buffer n) call = call (of_length n)
-by_length w OfTheCall call = call of_the_call
-by_length w (NoLength why) call = wrong (unread w why)
-
-abbrev pub by_bytes : List ℕ → Given → (List ℕ → Meaning) → Meaning
-by_bytes w (Bytes n) call = call (hex_bytes w)
-by_bytes w (NoBytes why) call = wrong (unread w why)
-
-abbrev pub by_status : List ℕ → Status → (ℕ → Meaning) → Meaning
-by_status w (Byte b) call = call b
-by_status w (NoByte why) call = wrong (unread w why)
+abbrev pub lent : Option ℕ → Lent
+lent (Some n) = of_length n
+lent None = of_the_call
 
 -- the words P, BUFFER, HEX and HH of vectors/README.md
 abbrev pub P : List ℕ → (ℕ → Meaning) → Meaning
-P w call = by_size w (size_of w) call
+P w call = by w (size_of w) call
 
 abbrev pub BUFFER : List ℕ → (Lent → Meaning) → Meaning
-BUFFER w call = by_length w (length_of w) call
+BUFFER w call = by w (length_of w) λ n. call (lent n)
 
 abbrev pub HEX : List ℕ → (List ℕ → Meaning) → Meaning
-HEX w call = by_bytes w (given_by w) call
+HEX w call = by w (given_by w) call
 
 abbrev pub HH : List ℕ → (ℕ → Meaning) → Meaning
-HH w call = by_status w (status_of w) call
+HH w call = by w (status_of w) call
 
 -- ** the calls
 
@@ -120,11 +100,11 @@ abbrev pub names : List Name
 names = Power ∷ Setup ∷ Out ∷ In ∷ Interrupt ∷ Take ∷ Offer ∷ SetStatus ∷ Local ∷ Reset ∷ Suspend ∷ State ∷ More ∷ []
 
 -- the call of these whose name the word is
-abbrev pub among : List Name → List ℕ → Named
-among [] w = Unknown
-among (n ∷ ns) w = pick (same w (row n).name) (Known n) (among ns w)
+abbrev pub among : List Name → List ℕ → Option Name
+among [] w = None
+among (n ∷ ns) w = pick (same w (row n).name) (Some n) (among ns w)
 
-unfoldable pub name_of : List ℕ → Named
+unfoldable pub name_of : List ℕ → Option Name
 name_of w = among names w
 
 -- ** the meaning
@@ -137,9 +117,9 @@ called s r =
     no (is_missing (word (r.most + 1) s)) ⇒ wrong (too_many (word (r.most + 1) s)) ∣ [])
     (r.asks (word 1 s) (word 2 s))
 
-abbrev pub by_name : List ℕ → Named → Meaning
-by_name s Unknown = wrong (no_call (word 0 s))
-by_name s (Known name) = called s (row name)
+abbrev pub by_name : List ℕ → Option Name → Meaning
+by_name s None = wrong (no_call (word 0 s))
+by_name s (Some name) = called s (row name)
 
 abbrev pub meaning_of : List ℕ → Meaning
 meaning_of s = pick (is_missing (word 0 s)) nothing (by_name s (name_of (word 0 s)))

@@ -1,74 +1,71 @@
 // What a line asks for.
 ghost use Rattle.std.specs.Prelude.{◌≡◌};
-ghost use Rattle.text_lines.specs.Asked.{asked_call, asked_text, asked};
+ghost use Rattle.text_lines.specs.Lines.{row, called, meaning_of, meaning};
+ghost use Rattle.text_lines.specs.Asked.{call_meant, meant};
 
-use crate::names::{Name, Named, least_words, most_words, name_of};
-use text_words::words::{Word, is_empty, nth_word, part, said};
+use crate::names::{Name, name_of};
+use text_words::words::{nth_word, said};
 
 // The most bytes of a line, its newline not counted.
 pub const LONGEST: usize = 4096;
 
-// A call, and where the first two words behind its name stand.
+// A call, and the first two words behind its name.
 #[derive(Clone, Copy)]
-pub struct Call {
+pub struct Call<'a> {
     pub name: Name,
-    pub first: Word,
-    pub second: Word,
+    pub first: &'a [u8],
+    pub second: &'a [u8],
 }
 
-// A call; or nothing; or what is wrong: too long a line, or a word that is no call's name, or is a name that needs a word behind it, or is one
-// too many. The words' places are those of the line.
-#[derive(Clone, Copy)]
-pub enum Asked {
-    For(Call),
-    Nothing,
+// What is wrong with a line: it is too long, or has a word that is no call's name, or is a name that needs a word behind it, or is one too many.
+#[derive(Clone, Copy, Debug, PartialEq, Eq)]
+pub enum Wrong<'a> {
     TooLong,
-    NoCall(Word),
-    TooFew(Word),
-    TooMany(Word),
+    NoCall(&'a [u8]),
+    TooFew(&'a [u8]),
+    TooMany(&'a [u8]),
 }
 
 // What a text that begins with this name asks for.
-fn asked_call(text: &[u8], name: Name) -> Asked
-    ensures { result ≡ asked_call text.now name }
+#[tactic(auto, using(rules::proofs::Choice::picks))]
+fn asked_call(text: &[u8], name: Name) -> Result<Call<'_>, Wrong<'_>>
+    ensures { call_meant result ≡ called text.now (row name) }
 {
-    let needed = nth_word(text, least_words(name));
-    if is_empty(needed) {
-        return Asked::TooFew(nth_word(text, 0));
+    let behind = name.words();
+    if nth_word(text, behind.least).is_empty() {
+        return Err(Wrong::TooFew(nth_word(text, 0)));
     }
-    let extra = nth_word(text, most_words(name) + 1);
-    if is_empty(extra) {
-        return Asked::For(Call {
-            name,
-            first: nth_word(text, 1),
-            second: nth_word(text, 2),
-        });
+    let extra = nth_word(text, behind.most + 1);
+    if !extra.is_empty() {
+        return Err(Wrong::TooMany(extra));
     }
-    Asked::TooMany(extra)
+    Ok(Call {
+        name,
+        first: nth_word(text, 1),
+        second: nth_word(text, 2),
+    })
 }
 
 // What a line's text asks for.
-fn asked_text(text: &[u8]) -> Asked
-    ensures { result ≡ asked_text text.now }
+#[tactic(auto, using(rules::proofs::Choice::picks))]
+fn asked_text(text: &[u8]) -> Result<Option<Call<'_>>, Wrong<'_>>
+    ensures { meant result ≡ meaning_of text.now }
 {
-    let called = nth_word(text, 0);
-    if is_empty(called) {
-        return Asked::Nothing;
+    let word = nth_word(text, 0);
+    if word.is_empty() {
+        return Ok(None);
     }
-    let named = name_of(part(text, called));
-    match named {
-        Named::Known(name) => asked_call(text, name),
-        Named::Unknown => Asked::NoCall(called),
-    }
+    let name = name_of(word).ok_or(Wrong::NoCall(word))?;
+    asked_call(text, name).map(Some)
 }
 
-// What a line asks for.
-#[tactic(auto, using(rules::proofs::Choice::picks), unfolding(crate::specs::Asked::asked))]
-pub fn read_line(line: &[u8]) -> Asked
-    ensures { result ≡ asked line.now }
+// What a line asks for: a call, or nothing where it has no word.
+#[tactic(auto, using(rules::proofs::Choice::picks), unfolding(crate::specs::Lines::meaning))]
+pub fn read_line(line: &[u8]) -> Result<Option<Call<'_>>, Wrong<'_>>
+    ensures { meant result ≡ meaning line.now }
 {
     if line.len() > LONGEST {
-        return Asked::TooLong;
+        return Err(Wrong::TooLong);
     }
     asked_text(said(line))
 }

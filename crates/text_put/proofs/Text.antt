@@ -1,17 +1,15 @@
--- The laws of putting text. `typing` follows a run of puts: a text that is put in two parts is put whole, and the part that a test
--- chooses is the one that was put. `typed_fits` says in closed form what becomes of a buffer that has room.
+-- The laws of putting text. `typing` follows a run of puts: what stands in front of the last text is put first, and the part that a
+-- test chooses is the one that was put. `typed_fits` says in closed form what becomes of a buffer that has room.
 -- Assumes nothing.
 use Prim.Native.Nat.{ℕ, suc, ◌+◌, ◌≤◌, ◌<◌}
 use mathlib.Core.Path.{◌≡◌, refl, sym, ap, ◌∙◌}
-use mathlib.Core.Bool.{Bool, true, false}
 use mathlib.Core.List.{List, [], ◌∷◌, ◌++◌, append-nil, append_assoc}
 use native.Mathlib.Omega.{arith}
 use native.Mathlib.Numerals.{add-one}
 use native.Mathlib.Nat.{add-zero}
 use lib.ListN.{length, get_or, take, drop, set, length-set}
-use lib.Seq.{take-suc, take_all, sets, sets-eq}
+use lib.Seq.{take-suc, sets, sets-eq}
 use borrow.Author.Tests.{lt-ltb, le-ltb}
-use Rattle.rules.specs.Choice.{pick}
 use Rattle.rules.proofs.Choice.{at_true, at_false, tests}
 use Rattle.text_put.specs.Text.{Page, typed_byte, typed, spelled, ◌then◌}
 
@@ -22,28 +20,16 @@ typed_append p (b ∷ s) t = typed_append (typed_byte p b) s t
 
 -- ** a run of puts
 
-both : (p m q : Page) (s t : List ℕ) → q ≡ typed m t → m ≡ typed p s → q ≡ typed p (s ++ t)
-both p m q s t e f = e ∙ ap (λ (x : Page). typed x t) f ∙ sym (typed_append p s t)
-
--- the last put is the end of the text, and what was put before is what stands in front of it
-pub typed_then : (p m q : Page) (s t : List ℕ) → q ≡ typed m t → m ≡ typed p s → q ≡ typed p (s then t)
-unfolding ◌then◌
-typed_then p m q s t e f = both p m q s t e f
-
-pub typed_none : (p : Page) → p ≡ typed p []
+pub typed_none : (p : Page) → typed p [] ≡ p
 unfolding typed
 typed_none p = refl
 
-module _ (p q : Page) (t : Bool) (s r : List ℕ) where
-  pub typed_true : t ≡ true → q ≡ typed p s → q ≡ typed p (pick t s r)
-  unfolding pick
-  typed_true e h = rw e h
+-- what stands in front of the last text is put first
+pub typed_then : (p : Page) (s t : List ℕ) → typed p (s then t) ≡ typed (typed p s) t
+unfolding ◌then◌
+typed_then p s t = typed_append p s t
 
-  pub typed_false : t ≡ false → q ≡ typed p r → q ≡ typed p (pick t s r)
-  unfolding pick
-  typed_false e h = rw e h
-
-pub ruleset typing = (typed_none, typed_true, typed_false, typed_then, tests)
+pub ruleset typing = (typed_none, typed_then, at_true, at_false, tests)
 
 -- ** one byte
 
@@ -57,11 +43,8 @@ typed_over b at x h = sym (at_false _ _ _ (le-ltb at (length b) h))
 
 -- ** a text put byte by byte
 
-pub typed_more : (p m q : Page) (text : List ℕ) (i : ℕ) → i < length text → m ≡ typed p (take i text) → q ≡ typed m (get_or text i 0 ∷ []) → q ≡ typed p (take (i + 1) text)
-typed_more p m q text i h e f = rw (add-one, take-suc text i 0) (both p m q _ _ f e)
-
-pub typed_all : (p q : Page) (text : List ℕ) (i : ℕ) → length text ≤ i → q ≡ typed p (take i text) → q ≡ typed p text
-typed_all p q text i h e = rw take_all at e
+pub typed_more : (p : Page) (text : List ℕ) (i : ℕ) → i < length text → typed p (take (i + 1) text) ≡ typed (typed p (take i text)) (get_or text i 0 ∷ [])
+typed_more p text i h = rw (add-one, take-suc text i 0) (typed_append p _ _)
 
 spelled_append : (f : ℕ → List ℕ) (s : List ℕ) (b : ℕ) → spelled f (s ++ (b ∷ [])) ≡ spelled f s ++ f b
 unfolding spelled
@@ -69,16 +52,13 @@ spelled_append f [] b = append-nil (f b)
 spelled_append f (a ∷ s) b = ap (λ (t : List ℕ). f a ++ t) (spelled_append f s b) ∙ sym (append_assoc (f a) (spelled f s) (f b))
 
 -- the same where each byte is written as a text of its own
-pub spelled_none : (f : ℕ → List ℕ) (p : Page) → p ≡ typed p (spelled f [])
+pub spelled_none : (f : ℕ → List ℕ) (p : Page) → typed p (spelled f []) ≡ p
 unfolding typed spelled
 spelled_none f p = refl
 
-pub spelled_more : (f : ℕ → List ℕ) (p m q : Page) (bytes : List ℕ) (i : ℕ) → i < length bytes → m ≡ typed p (spelled f (take i bytes))
-    → q ≡ typed m (f (get_or bytes i 0)) → q ≡ typed p (spelled f (take (i + 1) bytes))
-spelled_more f p m q bytes i h e g = rw (add-one, take-suc bytes i 0, spelled_append) (both p m q _ _ g e)
-
-pub spelled_all : (f : ℕ → List ℕ) (p q : Page) (bytes : List ℕ) (i : ℕ) → length bytes ≤ i → q ≡ typed p (spelled f (take i bytes)) → q ≡ typed p (spelled f bytes)
-spelled_all f p q bytes i h e = rw take_all at e
+pub spelled_more : (f : ℕ → List ℕ) (p : Page) (bytes : List ℕ) (i : ℕ) → i < length bytes
+    → typed p (spelled f (take (i + 1) bytes)) ≡ typed (typed p (spelled f (take i bytes))) (f (get_or bytes i 0))
+spelled_more f p bytes i h = rw (add-one, take-suc bytes i 0, spelled_append) (typed_append p _ _)
 
 -- ** where there is room
 

@@ -1,41 +1,122 @@
-// Text into a lent buffer. Each function puts bytes from `at` on and hands back the place behind them; what does not fit is left out.
+// Text into a lent buffer. What does not fit is left out: so nothing here is printed by core::fmt, which would hand each caller an error.
 #![tactic(auto)]
 
-ghost use Rattle.std.specs.Prelude.{◌≡◌, ◌∷◌, [], ◌%◌, ◌<◌, ◌≤◌};
+ghost use Rattle.std.specs.Prelude.{ℕ, ◌≡◌, List, ◌∷◌, [], ◌-◌, ◌%◌, ◌<◌, ◌≤◌, length, take};
 ghost use Rattle.text_put.specs.Text.{typed, spelled};
 ghost use Rattle.text_put.specs.Numbers.{digit_of, five_digits, zeros_in_front, decimal_text, pair_text, hex_text};
 
-pub fn put_byte(out: &mut [u8], at: usize, byte: u8) -> usize
-    ensures { (out.new, result) ≡ typed (out.old, at) (byte ∷ []) }
-{
-    if at < out.len() {
-        out[at] = byte;
-        return at + 1;
-    }
-    at
+use std::marker::Model;
+
+// A lent buffer, and the place where the next byte goes.
+#[derive(Drop)]
+pub struct Page<'a> {
+    out: &'a mut [u8],
+    at: usize,
 }
 
-pub fn put(out: &mut [u8], at: usize, text: &[u8]) -> usize
-    ensures { (out.new, result) ≡ typed (out.old, at) text.now }
-{
-    let mut end = at;
-    let mut i: usize = 0;
-    while i < text.len() {
-        end = put_byte(out, end, text[i]);
-        i += 1;
+impl<'a> Model for Page<'a> {
+    ghost use Rattle.std.specs.Prelude.{◌≤◌, length};
+    ghost use Rattle.text_put.specs.Text.{Page};
+
+    ghost Value = { Page };
+
+    ghost view = { λ p. (p.out.now, p.at) };
+
+    ghost invariant = { λ p. p.at ≤ length p.out.now };
+}
+
+impl<'a> Page<'a> {
+    pub fn new(out: &'a mut [u8]) -> Self
+        ensures { result ≡ (out.old, 0) }
+    {
+        Page { out, at: 0 }
     }
-    end
+
+    #[tactic(auto, using(crate::proofs::Text::typed_byte_lem, crate::proofs::Text::typed_over))]
+    pub fn put_byte(&mut self, byte: u8)
+        ensures { self.new ≡ typed self.old (byte ∷ []) }
+    {
+        if self.at < self.out.len() {
+            self.out[self.at] = byte;
+            self.at += 1;
+        }
+    }
+
+    #[tactic(auto, using(crate::proofs::Text::typed_none, crate::proofs::Text::typed_more))]
+    pub fn put(&mut self, text: &[u8])
+        ensures { self.new ≡ typed self.old text.now }
+    {
+        for &byte in text {
+            self.put_byte(byte);
+        }
+    }
+
+    // A text of its own for each byte.
+    #[tactic(auto, using(crate::proofs::Text::spelled_none, crate::proofs::Text::spelled_more))]
+    pub fn spell<F: Fn(&mut Page, u8)>(&mut self, bytes: &[u8], put_one: F)
+        ghost spelling: { ℕ → List ℕ }
+        requires callable { F.IsAlwaysCallable put_one }
+        requires spells { (p : _) (b : ℕ) (q : _) → b < 256 → F.post put_one p b tt q → q.now ≡ typed p.now (spelling b) }
+        ensures { self.new ≡ typed self.old (spelled spelling bytes.now) }
+    {
+        for &byte in bytes {
+            put_one(self, byte);
+        }
+    }
+
+    // The bytes that were put.
+    pub fn text(&self) -> &[u8]
+        ensures { result.now ≡ take self.now.1 self.now.0 }
+    {
+        &self.out[..self.at]
+    }
+
+    // How many bytes still fit.
+    pub fn room(&self) -> usize
+        ensures { result ≡ length self.now.0 - self.now.1 }
+    {
+        self.out.len() - self.at
+    }
+
+    // The next byte goes to the start again.
+    pub fn clear(&mut self)
+        ensures { self.new ≡ (self.old.0, 0) }
+    {
+        self.at = 0;
+    }
+
+    pub fn put_decimal(&mut self, n: u16)
+        ensures { self.new ≡ typed self.old (decimal_text n) }
+    {
+        self.put(&five_digits(n)[zeros_in_front(n)..]);
+    }
+
+    pub fn put_pair(&mut self, byte: u8)
+        ensures { self.new ≡ typed self.old (pair_text byte) }
+    {
+        self.put(&pair(byte));
+    }
+
+    // The bytes in hex, or `-` where there are none.
+    #[tactic(auto, using(crate::proofs::Text::typing), unfolding(crate::specs::Numbers::hex_text))]
+    pub fn put_hex(&mut self, bytes: &[u8])
+        ensures { self.new ≡ typed self.old (hex_text bytes.now) }
+    {
+        if bytes.is_empty() {
+            self.put_byte(b'-');
+        } else {
+            self.spell(bytes, |page, byte| page.put_pair(byte));
+        }
+    }
 }
 
 // The digit of a number below 16, in lower case.
+#[tactic(auto, using(rules::proofs::Choice::picks), unfolding(crate::specs::Numbers::digit_of))]
 fn digit(n: u8) -> u8
     requires { n < 16 }
     ensures { result ≡ digit_of n }
 {
-    if n < 10 {
-        return b'0' + n;
-    }
-    b'a' + (n - 10)
+    if n < 10 { b'0' + n } else { b'a' + (n - 10) }
 }
 
 // The last digit of a number in decimal.
@@ -48,68 +129,32 @@ fn last_digit(n: u16) -> u8
 fn five_digits(n: u16) -> [u8; 5]
     ensures { result ≡ five_digits n }
 {
-    let a = last_digit(n / 10000);
-    let b = last_digit(n / 1000);
-    let c = last_digit(n / 100);
-    let d = last_digit(n / 10);
-    let e = last_digit(n);
-    [a, b, c, d, e]
+    [n / 10000, n / 1000, n / 100, n / 10, n].map(last_digit)
 }
 
+#[tactic(auto, using(rules::proofs::Choice::picks), unfolding(crate::specs::Numbers::zeros_in_front))]
 fn zeros_in_front(n: u16) -> usize
     ensures { (result ≡ zeros_in_front n) × (result < 5) }
 {
-    if n < 10 {
-        return 4;
+    match n {
+        0..=9 => 4,
+        10..=99 => 3,
+        100..=999 => 2,
+        1000..=9999 => 1,
+        _ => 0,
     }
-    if n < 100 {
-        return 3;
-    }
-    if n < 1000 {
-        return 2;
-    }
-    if n < 10000 {
-        return 1;
-    }
-    0
-}
-
-pub fn put_decimal(out: &mut [u8], at: usize, n: u16) -> usize
-    ensures { (out.new, result) ≡ typed (out.old, at) (decimal_text n) }
-{
-    let text = five_digits(n);
-    let from = zeros_in_front(n);
-    put(out, at, &text[from..])
 }
 
 // Two hex digits.
-pub fn put_pair(out: &mut [u8], at: usize, byte: u8) -> usize
-    ensures { (out.new, result) ≡ typed (out.old, at) (pair_text byte) }
+fn pair(byte: u8) -> [u8; 2]
+    ensures { result ≡ pair_text byte }
 {
-    let high = digit(byte / 16);
-    let low = digit(byte % 16);
-    put(out, at, &[high, low])
+    [digit(byte / 16), digit(byte % 16)]
 }
 
-// Two hex digits for each byte.
-fn put_pairs(out: &mut [u8], at: usize, bytes: &[u8]) -> usize
-    ensures { (out.new, result) ≡ typed (out.old, at) (spelled pair_text bytes.now) }
+// The first n bytes, or all where there are fewer.
+pub fn first_part(bytes: &[u8], n: usize) -> &[u8]
+    ensures { result.now ≡ take n bytes.now }
 {
-    let mut end = at;
-    let mut i: usize = 0;
-    while i < bytes.len() {
-        end = put_pair(out, end, bytes[i]);
-        i += 1;
-    }
-    end
-}
-
-// The bytes in hex, or `-` where there are none.
-pub fn put_hex(out: &mut [u8], at: usize, bytes: &[u8]) -> usize
-    ensures { (out.new, result) ≡ typed (out.old, at) (hex_text bytes.now) }
-{
-    if bytes.len() == 0 {
-        return put_byte(out, at, b'-');
-    }
-    put_pairs(out, at, bytes)
+    bytes.get(..n).unwrap_or(bytes)
 }

@@ -1,45 +1,33 @@
--- Bytes that are digits and bytes that are none, by their order.
+-- The library's tests on digits are those of the definitions.
 -- Assumes nothing.
-use Prim.Native.Nat.{ℕ, ◌+◌, ◌-◌, ◌≤◌, ◌<◌}
-use mathlib.Core.Path.{◌≡◌, refl, ◌∙◌}
-use mathlib.Core.Bool.{Bool, true, false}
+use Prim.Native.Nat.{ℕ}
+use mathlib.Core.Path.{◌≡◌, refl}
+use mathlib.Core.Bool.{Bool, true, false, ◌&&◌, ◌||◌}
 use lib.Dec.{leb}
-use borrow.Author.Tests.{le-leb, lt-leb, leb-true}
-use Rattle.rules.specs.Choice.{◌and◌}
-use Rattle.rules.proofs.Choice.{or_left, or_right, or_none, and_both, at_true, at_false}
-use Rattle.text_words.specs.Text.{is_hex_digit}
-use Rattle.text_words.specs.Numbers.{nibble}
+use Rattle.std.specs.Char.{is_ascii_digit, is_ascii_hexdigit}
+use Rattle.rules.specs.Choice.{no, ◌or◌, ◌and◌}
+use Rattle.text_words.specs.Text.{is_digit, is_hex_digit, is_no_digit, is_no_hex_digit}
 
-module _ (b : ℕ) where
-  pub inside : (l h : ℕ) → l ≤ b → b ≤ h → (leb l b and leb b h) ≡ true
-  inside l h p q = and_both (leb l b) (leb b h) (le-leb l b p) (le-leb b h q)
+both : (a b : Bool) → (a && b) ≡ (a and b)
+unfolding ◌and◌
+both true b = refl
+both false b = refl
 
-  pub outside : (l h : ℕ) → (l ≤ b → h < b) → (leb l b and leb b h) ≡ false
-  unfolding ◌and◌
-  outside l h f = by (leb l b) refl
-    where
-      by : (t : Bool) → leb l b ≡ t → (t and leb b h) ≡ false
-      by true e = lt-leb b h (f (leb-true l b e))
-      by false e = refl
+any : (a b c : Bool) → ((a || b) || c) ≡ (a or (c or b))
+unfolding ◌or◌
+any true b c = refl
+any false true true = refl
+any false true false = refl
+any false false true = refl
+any false false false = refl
 
-  pub decimal_digit : 48 ≤ b → b ≤ 57 → (is_hex_digit b ≡ true) × (nibble b ≡ b - 48)
-  unfolding is_hex_digit nibble
-  decimal_digit p q = (or_left _ _ (inside 48 57 p q), at_true _ _ _ (inside 48 57 p q))
+range : (l h b : ℕ) → (leb l b && leb b h) ≡ (leb l b and leb b h)
+range l h b = both (leb l b) (leb b h)
 
-  pub small_digit : (48 ≤ b → 57 < b) → 97 ≤ b → b ≤ 102 → (is_hex_digit b ≡ true) × (nibble b ≡ b - 97 + 10)
-  unfolding is_hex_digit nibble
-  small_digit f p q = (or_right _ _ (or_left _ _ (inside 97 102 p q)), at_false _ _ _ (outside 48 57 f) ∙ at_true _ _ _ (inside 97 102 p q))
+pub no_digit : (b : ℕ) → is_no_digit b ≡ no (is_ascii_digit b)
+unfolding is_digit
+no_digit b = rw (range 48 57 b) refl
 
-  pub large_digit : (48 ≤ b → 57 < b) → (97 ≤ b → 102 < b) → 65 ≤ b → b ≤ 70 → (is_hex_digit b ≡ true) × (nibble b ≡ b - 65 + 10)
-  unfolding is_hex_digit nibble
-  large_digit f g p q = (
-    or_right _ _ (or_right _ _ (inside 65 70 p q)),
-    at_false _ _ _ (outside 48 57 f) ∙ at_false _ _ _ (outside 97 102 g) ∙ at_true _ _ _ (inside 65 70 p q),
-  )
-
-  pub no_digit : (48 ≤ b → 57 < b) → (97 ≤ b → 102 < b) → (65 ≤ b → 70 < b) → (is_hex_digit b ≡ false) × (nibble b ≡ 0)
-  unfolding is_hex_digit nibble
-  no_digit f g h = (
-    or_none _ _ (outside 48 57 f) (or_none _ _ (outside 97 102 g) (outside 65 70 h)),
-    at_false _ _ _ (outside 48 57 f) ∙ at_false _ _ _ (outside 97 102 g) ∙ at_false _ _ _ (outside 65 70 h),
-  )
+pub no_hex_digit : (b : ℕ) → is_no_hex_digit b ≡ no (is_ascii_hexdigit b)
+unfolding is_hex_digit
+no_hex_digit b = rw (any (leb 48 b && leb b 57) (leb 65 b && leb b 70) (leb 97 b && leb b 102), range 48 57 b, range 65 70 b, range 97 102 b) refl

@@ -2,7 +2,8 @@
 pub mod Searches
 pub mod Same
 pub mod Digits
+pub mod Found
 pub mod Hex
-pub mod Places
+pub mod Shorter
 pub mod Cut
 pub mod Examples

@@ -1,12 +1,10 @@
 -- Text as bytes, and what a test on bytes finds in it.
 -- Assumes nothing.
-use Rattle.std.specs.Prelude.{ℕ, zero, suc, ◌+◌, Bool, true, false, List, [], ◌∷◌, length, get_or, take, drop}
+use Rattle.std.specs.Prelude.{◌≡◌, ℕ, zero, suc, Bool, true, false, List, [], ◌∷◌, length, get_or, take, drop, Option, Some, None}
 use Prim.Native.Char.{Char, code}
 use Prim.Native.String.{String}
 use Rattle.rules.specs.Choice.{◌=ᵇ◌, ◌≤ᵇ◌, ◌<ᵇ◌, no, ◌or◌, ◌and◌, pick}
 use Rattle.text_put.specs.Text.{ascii}
-use Rattle.text_words.specs.declared.seek.Sought.{Sought}
-use Rattle.text_words.specs.declared.seek.Sought.TheVariants.{Byte, Blank, Solid, NoDigit, NoHexDigit}
 
 infix 50 ◌is◌ ◌from◌to◌
 -- two texts are the same
@@ -46,13 +44,9 @@ is_no_digit b = no (is_digit b)
 abbrev pub is_no_hex_digit : ℕ → Bool
 is_no_hex_digit b = no (is_hex_digit b)
 
--- what code can look for, as a test
-abbrev pub is_sought : Sought → ℕ → Bool
-is_sought (Byte c) = is_byte c
-is_sought Blank = is_blank
-is_sought Solid = is_solid
-is_sought NoDigit = is_no_digit
-is_sought NoHexDigit = is_no_hex_digit
+-- what code answers of each byte is what the test says
+abbrev pub Tells : (ℕ → Bool) → (ℕ → Bool → Type 0) → Type 0
+Tells t answers = (b : ℕ) (r : Bool) → answers b r → r ≡ t b
 
 -- ** what a test finds
 
@@ -75,6 +69,6 @@ has t s = place t s <ᵇ length s
 abbrev pub first_of : (ℕ → Bool) → List ℕ → ℕ
 first_of t s = get_or s (place t s) 0
 
--- the place of the first byte from place i on that passes; the end where none does
-abbrev pub seek : (ℕ → Bool) → List ℕ → ℕ → ℕ
-seek t s i = i + place t (drop i s)
+-- the same where there may be none
+abbrev pub found : (ℕ → Bool) → List ℕ → Option ℕ
+found t s = pick (has t s) (Some (first_of t s)) None

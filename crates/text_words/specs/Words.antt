@@ -2,10 +2,8 @@
 -- Assumes nothing.
 use Rattle.std.specs.Prelude.{ℕ, zero, suc, ◌-◌, Bool, List, length, get_or, take}
 use Prim.Native.Char.{code}
-use Rattle.std.proofs.Math.Seq.{slice}
-use Rattle.rules.specs.Choice.{◌=ᵇ◌, ◌≤ᵇ◌, pick}
-use Rattle.text_words.specs.Text.{is_byte, is_blank, is_solid, before, since, seek}
-use Rattle.text_words.specs.declared.words.Word.{Word}
+use Rattle.rules.specs.Choice.{◌=ᵇ◌, pick}
+use Rattle.text_words.specs.Text.{is_byte, is_blank, is_solid, before, since}
 
 -- the line without a CR at its end
 unfoldable pub without_return : List ℕ → List ℕ
@@ -31,21 +29,3 @@ word (suc n) s = word n (behind s)
 
 abbrev pub is_missing : List ℕ → Bool
 is_missing w = length w =ᵇ 0
-
--- ** words, by their places
-
--- the next word from place i on
-abbrev pub next_word : List ℕ → ℕ → Word
-next_word s i = record { from = seek is_solid s i; to = seek is_blank s (seek is_solid s i) }
-
--- where word n stands
-abbrev pub word_at : ℕ → List ℕ → Word
-word_at zero s = next_word s 0
-word_at (suc n) s = next_word s (word_at n s).to
-
--- a text's bytes at the places of a word
-abbrev pub part : List ℕ → Word → List ℕ
-part s w = slice w.from w.to s
-
-abbrev pub is_empty : Word → Bool
-is_empty w = w.to ≤ᵇ w.from

@@ -1,74 +1,52 @@
 // Numbers and bytes in words.
-ghost use Rattle.std.specs.Prelude.{◌≡◌, ◌+◌, ◌-◌, ◌*◌, ◌<◌, ◌≤◌, min, length, take};
-ghost use Rattle.text_words.specs.Numbers.{at_most, read_decimal, read_hex, pairs, hex_bytes, over};
+ghost use Rattle.std.specs.Prelude.{◌≡◌, ◌+◌, ◌-◌, ◌*◌, ◌<◌};
+ghost use Rattle.text_words.specs.Numbers.{at_most, read_decimal, first_pairs, read_hex};
 ghost use Rattle.text_words.specs.Numbers as Numbers;
+ghost use Rattle.text_words.specs.Text.{is_no_hex_digit, found};
 
-use crate::seek::{Sought, seek};
-use crate::words::{first_part, same};
+pub use crate::bytes::BYTES;
+use crate::bytes::Bytes;
 
-// The most bytes that a line can carry, and the largest buffer that it can lend.
-pub const BYTES: usize = 2048;
-
-// A decimal number.
-#[derive(Clone, Copy)]
-pub enum ReadDecimal {
-    Value(u16),
+// Why a word is no decimal number: a byte of it is no digit, or the number is above the largest.
+#[derive(Clone, Copy, Debug, PartialEq, Eq)]
+pub enum DecimalError {
     NotDecimal,
-    TooLarge,
-}
-
-fn wide(byte: u8) -> u32
-    ensures { (result ≡ byte) × (result < 256) }
-{
-    byte as u32
-}
-
-// What a byte is as a digit.
-fn digit_of(byte: u8) -> u32
-    ensures { (result ≡ byte - 48) × (result < 256) }
-{
-    if byte < b'0' {
-        return 0;
-    }
-    wide(byte - b'0')
+    Above(u16),
 }
 
 // The number of a word's digits, of which it reads no more than it takes to see that the number is too large.
-fn number(word: &[u8], most: u16) -> ReadDecimal
+fn number(word: &[u8], most: u16) -> Result<u16, DecimalError>
     ensures { result ≡ at_most most (Numbers.number word.now) }
 {
-    let limit = most as u32;
     let mut n: u32 = 0;
-    let mut i: usize = 0;
-    while i < word.len() {
-        n = n * 10 + digit_of(word[i]);
-        if n > limit {
-            return ReadDecimal::TooLarge;
+    for digit in word {
+        n = n * 10 + u32::from(digit.saturating_sub(b'0'));
+        if n > u32::from(most) {
+            return Err(DecimalError::Above(most));
         }
-        i += 1;
     }
-    ReadDecimal::Value(n as u16)
+    Ok(n as u16)
 }
 
-pub fn decimal(word: &[u8], most: u16) -> ReadDecimal
+pub fn decimal(word: &[u8], most: u16) -> Result<u16, DecimalError>
     ensures { result ≡ read_decimal most word.now }
 {
-    let end = seek(word, 0, Sought::NoDigit);
-    if end < word.len() {
-        return ReadDecimal::NotDecimal;
+    if word.iter().all(u8::is_ascii_digit) {
+        number(word, most)
+    } else {
+        Err(DecimalError::NotDecimal)
     }
-    number(word, most)
 }
 
-// Bytes written in hex: how many, or what is wrong with them.
-#[derive(Clone, Copy)]
-pub enum ReadHex {
-    Count(usize),
+// Why a word is no bytes in hex: a byte of it is no hex digit, or their number is odd.
+#[derive(Clone, Copy, Debug, PartialEq, Eq)]
+pub enum HexError {
     NotHex(u8),
     Odd,
 }
 
-// The number of a hex digit; 0 where it is none.
+// The number of a hex digit; 0 where it is none. A `match`, since `to_digit` gives a `u32` in an `Option`.
+#[tactic(auto, using(rules::proofs::Choice::picks), unfolding(crate::specs::Numbers::nibble))]
 fn nibble(byte: u8) -> u8
     ensures { (result ≡ Numbers.nibble byte) × (result < 16) }
 {
@@ -80,69 +58,37 @@ fn nibble(byte: u8) -> u8
     }
 }
 
-fn joined(high: u8, low: u8) -> u8
-    ensures { result ≡ Numbers.nibble high * 16 + Numbers.nibble low }
+// The bytes of pairs of digits.
+fn pairs(word: &[u8]) -> Bytes
+    ensures { result ≡ first_pairs word.now }
 {
-    nibble(high) * 16 + nibble(low)
-}
-
-fn least(a: usize, b: usize) -> usize
-    ensures { result ≡ min a b }
-{
-    if a < b {
-        return a;
+    let mut bytes = Bytes::new();
+    let mut rest = word;
+    while let [high, low, behind @ ..] = rest {
+        bytes.push(nibble(*high) * 16 + nibble(*low));
+        rest = behind;
     }
-    b
+    bytes
 }
 
-fn read_hex(word: &[u8]) -> ReadHex
+// The first byte of a word that is no hex digit.
+fn no_hex_digit(word: &[u8]) -> Option<u8>
+    ensures { result ≡ found is_no_hex_digit word.now }
+{
+    word.iter().find(|byte| !byte.is_ascii_hexdigit()).copied()
+}
+
+// The bytes of a word; `-` is none.
+pub fn hex(word: &[u8]) -> Result<Bytes, HexError>
     ensures { result ≡ read_hex word.now }
 {
-    if same(word, b"-") {
-        return ReadHex::Count(0);
+    if word == b"-".as_slice() {
+        Ok(Bytes::new())
+    } else if let Some(byte) = no_hex_digit(word) {
+        Err(HexError::NotHex(byte))
+    } else if word.len() % 2 != 0 {
+        Err(HexError::Odd)
+    } else {
+        Ok(pairs(word))
     }
-    let n = word.len();
-    let end = seek(word, 0, Sought::NoHexDigit);
-    if end < n {
-        return ReadHex::NotHex(word[end]);
-    }
-    if n % 2 != 0 {
-        return ReadHex::Odd;
-    }
-    ReadHex::Count(least(n / 2, BYTES))
-}
-
-// The bytes of the first n pairs go into `bytes`, whose others stay.
-fn put_pairs(word: &[u8], n: usize, bytes: &mut [u8])
-    requires { (n + n ≤ length word.now) × (n ≤ length bytes.old) }
-    ensures { bytes.new ≡ over (take n (pairs word.now)) bytes.old }
-{
-    let mut k: usize = 0;
-    while k < n {
-        bytes[k] = joined(word[k + k], word[k + k + 1]);
-        k += 1;
-    }
-}
-
-// The bytes of a word go into `bytes`; `-` is none. Where the word cannot be read, none does.
-pub fn hex(word: &[u8], bytes: &mut [u8; BYTES]) -> ReadHex
-    ensures value { result ≡ read_hex word.now }
-    ensures bytes_after { bytes.new ≡ over (hex_bytes word.now) bytes.old }
-{
-    let read = read_hex(word);
-    match read {
-        ReadHex::Count(n) => {
-            put_pairs(word, n, bytes);
-            read
-        }
-        ReadHex::NotHex(_) => read,
-        ReadHex::Odd => read,
-    }
-}
-
-// The first n bytes.
-pub fn start(bytes: &[u8; BYTES], n: usize) -> &[u8]
-    ensures { result.now ≡ take n bytes.now }
-{
-    first_part(bytes, n)
 }

@@ -2,45 +2,42 @@
 -- Assumes nothing.
 use Prim.Native.Nat.{ℕ}
 use mathlib.Core.Path.{◌≡◌}
-use mathlib.Core.Bool.{Bool, true, false}
+use mathlib.Core.Bool.{true}
 use mathlib.Core.List.{[]}
-use native.Mathlib.Omega.{arith}
-use Rattle.rules.specs.Choice.{pick, first, decide}
-use Rattle.rules.specs.Answers.{UNSOUND}
+use Rattle.std.specs.Prelude.{Result, Ok, Err}
+use Rattle.rules.specs.Choice.{pick, gate}
+use Rattle.rules.specs.declared.refusal.Refusal.{Refusal}
+use Rattle.rules.specs.declared.refusal.Refusal.TheVariants.{Unsound}
 use Rattle.rules.proofs.Choice.{refuses, passes}
 use Rattle.port.specs.Parts.{interrupt_of, with_interrupt, with_remote}
 use Rattle.port.specs.Interrupt.{status_held}
 use Rattle.port.specs.Remote.{by_panel}
 use Rattle.port.specs.Sound.{sound}
-use Rattle.port.specs.Answer.{Said, says, refuse}
+use Rattle.port.specs.Answer.{says, refuse}
+use Rattle.port.specs.Given.{given_of}
 use Rattle.port.specs.Calls.{thermostat_rules, status_set, returned}
 use Rattle.port.specs.declared.types.State.{State}
+use Rattle.port.specs.declared.types.Given.{Given}
+use Rattle.state_parts.proofs.Handed.{unsound_given, sound_given}
 
-module _ (st : State) (said : Said) (n : ℕ) where
-  -- the number of the gate, whether the unit is sound or not
-  gate_refused : (t : Bool) → n ≡ pick t (first (thermostat_rules st) 0) UNSOUND → (n ≡ 0 → ⊥) → refuse st n ≡ pick t (decide (refuse st) (thermostat_rules st) said) (refuse st UNSOUND)
-  unfolding pick
-  gate_refused true e z = refuses (refuse st) (thermostat_rules st) said n tt e z
-  gate_refused false e z = rw e
-
-  gate_passed : (t : Bool) → n ≡ pick t (first (thermostat_rules st) 0) UNSOUND → n ≡ 0 → said ≡ pick t (decide (refuse st) (thermostat_rules st) said) (refuse st UNSOUND)
-  unfolding pick
-  gate_passed true e z = passes (refuse st) (thermostat_rules st) said n tt e z
-  gate_passed false e z = absurd (omega arith)
-
-module _ (st : State) (n : ℕ) (gate : n ≡ pick (sound st) (first (thermostat_rules st) 0) UNSOUND) where
-  pub status_refused : (status : ℕ) → (n ≡ 0 → ⊥) → refuse st n ≡ pick (sound st) (status_set st status) (refuse st UNSOUND)
+module _ (st : State) (g : Given) (s : sound st ≡ true) (told : Result (Unit {0}) Refusal) (is : told ≡ gate (thermostat_rules st)) where
+  pub status_refused : (status : ℕ) (r : Refusal) → told ≡ Err r → g ≡ given_of (refuse st r) → g ≡ given_of (pick (sound st) (status_set st status) (refuse st Unsound))
   unfolding status_set
-  status_refused status = gate_refused st _ n (sound st) gate
+  status_refused status r e f = sound_given st _ g s _ f (refuses (refuse st) (thermostat_rules st) _ told is r e)
 
-  pub status_done : (status : ℕ) → n ≡ 0 → says (with_interrupt st (status_held (interrupt_of st) status)) [] ≡ pick (sound st) (status_set st status) (refuse st UNSOUND)
+  pub status_done : (status : ℕ) → told ≡ Ok tt → g ≡ given_of (says (with_interrupt st (status_held (interrupt_of st) status)) [])
+      → g ≡ given_of (pick (sound st) (status_set st status) (refuse st Unsound))
   unfolding status_set
-  status_done status = gate_passed st _ n (sound st) gate
+  status_done status e f = sound_given st _ g s _ f (passes (refuse st) (thermostat_rules st) _ told is e)
 
-  pub return_refused : (n ≡ 0 → ⊥) → refuse st n ≡ pick (sound st) (returned st) (refuse st UNSOUND)
+  pub return_refused : (r : Refusal) → told ≡ Err r → g ≡ given_of (refuse st r) → g ≡ given_of (pick (sound st) (returned st) (refuse st Unsound))
   unfolding returned
-  return_refused = gate_refused st _ n (sound st) gate
+  return_refused r e f = sound_given st _ g s _ f (refuses (refuse st) (thermostat_rules st) _ told is r e)
 
-  pub return_done : n ≡ 0 → says (with_remote st (by_panel st.remote)) [] ≡ pick (sound st) (returned st) (refuse st UNSOUND)
+  pub return_done : told ≡ Ok tt → g ≡ given_of (says (with_remote st (by_panel st.remote)) []) → g ≡ given_of (pick (sound st) (returned st) (refuse st Unsound))
   unfolding returned
-  return_done = gate_passed st _ n (sound st) gate
+  return_done e f = sound_given st _ g s _ f (passes (refuse st) (thermostat_rules st) _ told is e)
+
+pub ruleset status_ways = (unsound_given, status_refused, status_done)
+
+pub ruleset return_ways = (unsound_given, return_refused, return_done)

@@ -25,8 +25,12 @@ use Rattle.port.specs.Step.{offer_reply, Call, out_packet, bus_reset, quiet, set
 use Rattle.port.specs.declared.types.Setting.{Setting}
 use Rattle.port.specs.declared.types.Plan.{Plan}
 use Rattle.port.specs.declared.types.Given.{Given}
-use Rattle.port.specs.declared.types.SetupOutcome.{SetupOutcome}
-use Rattle.port.specs.declared.types.SetupOutcome.TheVariants.{Denies, Renews, Answers}
+use Rattle.port.specs.Answer.{SetupOutcome}
+use Rattle.std.specs.Prelude.{Ok, Err}
+use Rattle.rules.specs.Answers.{number_of, refusing}
+use Rattle.rules.specs.declared.refusal.Refusal.{Refusal}
+use Rattle.rules.specs.declared.refusal.Refusal.TheVariants.{Unsound}
+use Rattle.wire.specs.declared.types.Setup.TheVariants.{Configure, Asks}
 use Rattle.port.proofs.Calls.{unplanned, unstored}
 use Rattle.setup_step.proofs.Serving.{answers_roomy}
 use Rattle.unit.specs.Promise.{device_of, unit_of, done_of, told_of, Tells}
@@ -42,13 +46,13 @@ guarded f d c a b e g = sym (pick_map f (is_sound d) a b) ∙ (λ i. pick (is_so
 -- ** what is said over the state, with no store touched
 
 module _ (d : Device) (c : Call) (x : Said) (does : soundly d c ≡ said d x) (r : Given) where
-  said_step : said d (pick (is_sound d) x (refuse d.state UNSOUND)) ≡ step d c
-  said_step = guarded (said d) d c x (refuse d.state UNSOUND) does refl
+  said_step : said d (pick (is_sound d) x (refuse d.state Unsound)) ≡ step d c
+  said_step = guarded (said d) d c x (refuse d.state Unsound) does refl
 
-  pub moved : r ≡ given_of (pick (is_sound d) x (refuse d.state UNSOUND)) → ◌≡◌ {A = Done} (record { unit = unit_of (with_state d r.state); verdict = r.verdict }) (done_of (step d c))
+  pub moved : r ≡ given_of (pick (is_sound d) x (refuse d.state Unsound)) → ◌≡◌ {A = Done} (record { unit = unit_of (with_state d r.state); verdict = r.verdict }) (done_of (step d c))
   moved e = ap (λ (g : Given). record { unit = unit_of (with_state d g.state); verdict = g.verdict }) e ∙ ap done_of said_step
 
-  pub handed : (b b' : List ℕ) → Hands (pick (is_sound d) x (refuse d.state UNSOUND)) r b b'
+  pub handed : (b b' : List ℕ) → Hands (pick (is_sound d) x (refuse d.state Unsound)) r b b'
       → Tells (step d c) b b' (record { unit = unit_of (with_state d r.state); verdict = r.verdict; len = r.len })
   handed b b' h = record {
     told = ap (λ (g : Given). record { unit = unit_of (with_state d g.state); verdict = g.verdict; len = g.len }) h.0 ∙ ap told_of said_step;
@@ -84,7 +88,7 @@ stored u bytes plan m e f =
 
 -- ** a setup packet, by what it comes to
 
-module _ (d : Device) (s b : List ℕ) (x : SetupOutcome) (is : x ≡ pick (is_sound d) (setup_outcome d.state s (length b)) (Denies UNSOUND)) where
+module _ (d : Device) (s b : List ℕ) (x : SetupOutcome) (is : x ≡ pick (is_sound d) (setup_outcome d.state s (length b)) (Err Unsound)) where
   setup_step : answered d x ≡ step d (setup_of s (length b))
   unfolding soundly setup answered
   setup_step = ap (answered d) is ∙ guarded (answered d) d (setup_of s (length b)) _ _ refl refl
@@ -92,29 +96,29 @@ module _ (d : Device) (s b : List ℕ) (x : SetupOutcome) (is : x ≡ pick (is_s
   told_by : (q : Result) (b' : List ℕ) (t : Told) → q ≡ answered d x → Tells q b b' t → Tells (step d (setup_of s (length b))) b b' t
   told_by q b' t e h = record { told = h.told ∙ ap told_of (e ∙ setup_step); buffer = h.buffer ∙ ap (λ (r : Result). into r.answer.bytes b) (e ∙ setup_step) }
 
-  pub setup_denied : (n : ℕ) → x ≡ Denies n → Tells (step d (setup_of s (length b))) b b (record { unit = unit_of d; verdict = only n; len = 0 })
+  pub setup_denied : (k : Refusal) → x ≡ Err k → Tells (step d (setup_of s (length b))) b b (record { unit = unit_of d; verdict = refusing k; len = 0 })
   unfolding answered
-  setup_denied n e = told_by (refused d n) b _ (sym (ap (answered d) e)) (record { told = refl; buffer = refl })
+  setup_denied k e = told_by (refused d (number_of k)) b _ (sym (ap (answered d) e)) (record { told = refl; buffer = refl })
 
-  pub setup_renewed : (value : ℕ) → x ≡ Renews value → Tells (step d (setup_of s (length b))) b b (record { unit = unit_of (made d.state.small.port.setting value); verdict = done; len = 0 })
+  pub setup_renewed : (value : ℕ) → x ≡ Ok (Configure value) → Tells (step d (setup_of s (length b))) b b (record { unit = unit_of (made d.state.small.port.setting value); verdict = done; len = 0 })
   unfolding answered
   setup_renewed value e = told_by (renewed d value) b _ (sym (ap (answered d) e)) (record { told = refl; buffer = refl })
 
-  pub setup_answered : (row : Row) → x ≡ Answers row → (b' : List ℕ) (r : Given) → Hands (reacted d.state (answer_row d.state row)) r b b'
+  pub setup_answered : (row : Row) → x ≡ Ok (Asks row) → (b' : List ℕ) (r : Given) → Hands (reacted d.state (answer_row d.state row)) r b b'
       → Tells (step d (setup_of s (length b))) b b' (record { unit = unit_of (with_state d r.state); verdict = r.verdict; len = r.len })
   unfolding answered
   setup_answered row e b' r h =
       told_by (said d (reacted d.state (answer_row d.state row))) b' _ (sym (ap (answered d) e))
       (record { told = ap (λ (g : Given). record { unit = unit_of (with_state d g.state); verdict = g.verdict; len = g.len }) h.0; buffer = h.1 })
 
-  pub setup_roomy : (row : Row) → x ≡ Answers row → CONTROL ≤ length b
+  pub setup_roomy : (row : Row) → x ≡ Ok (Asks row) → CONTROL ≤ length b
   unfolding pick
   setup_roomy row e = by (is_sound d) (sym e ∙ is)
     where
-      never : Answers row ≡ Denies UNSOUND → ⊥
+      never : Ok (Asks row) ≡ Err Unsound → ⊥
       never f = let z : ◌≡◌ {A = ℕ} 0 1 = cc in omega arith
 
-      by : (t : Bool) → Answers row ≡ pick t (setup_outcome d.state s (length b)) (Denies UNSOUND) → CONTROL ≤ length b
+      by : (t : Bool) → Ok (Asks row) ≡ pick t (setup_outcome d.state s (length b)) (Err Unsound) → CONTROL ≤ length b
       by true f = answers_roomy d.state s (length b) row f
       by false f = absurd (never f)
 

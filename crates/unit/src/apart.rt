@@ -12,13 +12,10 @@ impl Unit {
     pub fn state(self) -> State
         ensures { result ≡ (device_of self).state }
     {
-        let small = self.small;
-        let split = self.split;
-        let remote = self.remote;
         State {
-            small,
-            split,
-            remote,
+            small: self.small,
+            split: self.split,
+            remote: self.remote,
         }
     }
 
@@ -26,17 +23,11 @@ impl Unit {
     pub fn with_state(self, st: State) -> Unit
         ensures { result ≡ unit_of (with_state (device_of self) st) }
     {
-        let message = self.message;
-        let reply = self.reply;
-        let small = st.small;
-        let split = st.split;
-        let remote = st.remote;
         Unit {
-            message,
-            reply,
-            small,
-            split,
-            remote,
+            small: st.small,
+            split: st.split,
+            remote: st.remote,
+            ..self
         }
     }
 
@@ -52,11 +43,9 @@ impl Unit {
     pub fn told(self, given: Given) -> Told
         ensures { result ≡ record { unit = unit_of (with_state (device_of self) given.state); verdict = given.verdict; len = given.len } }
     {
-        let st = given.state;
-        let verdict = given.verdict;
         Told {
-            unit: self.with_state(st),
-            verdict,
+            unit: self.with_state(given.state),
+            verdict: given.verdict,
             len: given.len,
         }
     }

@@ -13,8 +13,6 @@ impl Unit {
     {
         let st = self.state();
         let plan = packet_step(&mut self.message, st, s);
-        let after = plan.state;
-        let verdict = plan.verdict;
-        self.done(after, verdict)
+        self.done(plan.state, plan.verdict)
     }
 }

@@ -6,8 +6,9 @@ ghost use Rattle.unit.specs.Promise.{device_of, unit_of, done_of};
 
 use crate::types::{Done, Unit};
 use port::types::{FULL_SPEED, HIGH_SPEED, STORE, Setting};
-use rules::verdict::only;
-use rules::{DONE, UNSOUND, WRONG_SIZE};
+use rules::DONE;
+use rules::refusal::Refusal;
+use rules::verdict::{Verdict, only};
 use state_parts::parts::fresh;
 use state_sound::sound::{is_size, sound};
 use wire::types::{BULK_IN, BULK_OUT, INTERRUPT_IN};
@@ -43,7 +44,7 @@ impl Unit {
         };
         Done {
             unit: Unit::made(least, 0),
-            verdict: only(WRONG_SIZE),
+            verdict: Verdict::from(Refusal::WrongSize),
         }
     }
 
@@ -60,7 +61,7 @@ impl Unit {
         }
         Done {
             unit: self,
-            verdict: only(UNSOUND),
+            verdict: Verdict::from(Refusal::Unsound),
         }
     }
 
@@ -69,15 +70,12 @@ impl Unit {
         ensures { result ≡ unit_of (made setting configured) }
     {
         let st = fresh(setting, configured);
-        let small = st.small;
-        let split = st.split;
-        let remote = st.remote;
         Unit {
             message: [0; 1024],
             reply: [0; 1024],
-            small,
-            split,
-            remote,
+            small: st.small,
+            split: st.split,
+            remote: st.remote,
         }
     }
 }

@@ -13,8 +13,6 @@ impl Unit {
     {
         let st = self.state();
         let plan = offer_step(&mut self.reply, st, bytes);
-        let after = plan.state;
-        let verdict = plan.verdict;
-        self.done(after, verdict)
+        self.done(plan.state, plan.verdict)
     }
 }

@@ -4,10 +4,10 @@ ghost use Rattle.port.specs.Step.{setup_of, step};
 ghost use Rattle.unit.specs.Promise.{device_of, Tells};
 
 use crate::types::{Told, Unit};
-use port::types::SetupOutcome;
 use rules::DONE;
-use rules::verdict::only;
+use rules::verdict::{Verdict, only};
 use setup_step::serve::{decided, row_step};
+use wire::types::Setup;
 
 impl Unit {
     // A setup packet; its answer goes into the control buffer `b`.
@@ -15,19 +15,18 @@ impl Unit {
         ensures { Tells (step (device_of self) (setup_of s.now (length b.old))) b.old b.new result }
     {
         let st = self.state();
-        let x = decided(st, s, b.len());
-        match x {
-            SetupOutcome::Denies { number } => Told {
+        match decided(st, s, b.len()) {
+            Err(refusal) => Told {
                 unit: self,
-                verdict: only(number),
+                verdict: Verdict::from(refusal),
                 len: 0,
             },
-            SetupOutcome::Renews { value } => Told {
+            Ok(Setup::Configure { value }) => Told {
                 unit: Unit::made(st.small.port.setting, value),
                 verdict: only(DONE),
                 len: 0,
             },
-            SetupOutcome::Answers { row } => self.told(row_step(st, row, b)),
+            Ok(Setup::Asks { row }) => self.told(row_step(st, row, b)),
         }
     }
 }

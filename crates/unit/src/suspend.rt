@@ -12,8 +12,6 @@ impl Unit {
         ensures { result ≡ done_of (step (device_of self) (quiet bus_suspend)) }
     {
         let given = suspended(self.state());
-        let after = given.state;
-        let verdict = given.verdict;
-        self.done(after, verdict)
+        self.done(given.state, given.verdict)
     }
 }

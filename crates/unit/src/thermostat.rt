@@ -12,9 +12,7 @@ impl Unit {
         ensures { result ≡ done_of (step (device_of self) (quiet (set_status status))) }
     {
         let given = status_set(self.state(), status);
-        let after = given.state;
-        let verdict = given.verdict;
-        self.done(after, verdict)
+        self.done(given.state, given.verdict)
     }
 
     // The front panel asks for local control.
@@ -22,8 +20,6 @@ impl Unit {
         ensures { result ≡ done_of (step (device_of self) (quiet front_panel)) }
     {
         let given = returned(self.state());
-        let after = given.state;
-        let verdict = given.verdict;
-        self.done(after, verdict)
+        self.done(given.state, given.verdict)
     }
 }

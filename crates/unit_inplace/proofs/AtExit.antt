@@ -5,6 +5,7 @@ use mathlib.Core.Path.{◌≡◌, refl, ap}
 use mathlib.Core.List.{List}
 use lib.ListN.{length, drop}
 use lib.Seq.{paste}
+use Rattle.rules.specs.declared.refusal.Refusal.TheVariants.{Unsound}
 use Rattle.rules.specs.Choice.{pick}
 use Rattle.rules.specs.Answers.{UNSOUND, only}
 use Rattle.port.specs.Parts.{out_of}
@@ -35,7 +36,7 @@ altered u s plan m e f =
     record { unit = ap (λ (z : Done). z.unit) d; verdict = ap (λ (z : Done). z.verdict) d }
 
 pub polled : (u : Unit) (b b' : List ℕ) (r : Given)
-    → Hands (pick (is_sound (device_of u)) (poll (device_of u).state (unsent_of (device_of u)) (length b)) (refuse (device_of u).state UNSOUND)) r b b'
+    → Hands (pick (is_sound (device_of u)) (poll (device_of u).state (unsent_of (device_of u)) (length b)) (refuse (device_of u).state Unsound)) r b b'
     → Sends (step (device_of u) (quiet (in_poll (length b)))) b b' (unit_of (with_state (device_of u) r.state)) (sent_of r)
 unfolding soundly quietly bulk_in
 polled u b b' r h =

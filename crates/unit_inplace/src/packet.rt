@@ -8,7 +8,7 @@ use port::types::State;
 use rules::verdict::Verdict;
 use unit::types::Unit;
 
-// A Bulk-OUT packet, on a unit that is altered where it stands.
+// A Bulk-OUT packet, on a unit that is altered where it stands: field by field, as the methods of a unit take it with its stores.
 pub fn packet_in_place(u: &mut Unit, s: &[u8]) -> Verdict
     ensures { Alters (step (device_of u.old) (out_packet s.now)) u.new result }
 {

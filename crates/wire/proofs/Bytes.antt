@@ -2,12 +2,14 @@
 -- Assumes nothing.
 use Prim.Native.Nat.{ℕ, zero, suc, ◌≤◌, ◌<◌}
 use mathlib.Core.Path.{◌≡◌, refl, sym, ap, ◌∙◌}
-use mathlib.Core.Bool.{true, false}
+use mathlib.Core.Bool.{Bool, true, false}
 use mathlib.Core.List.{List, ◌∷◌}
 use mathlib.Core.Logic.{⊎_elim}
 use native.Mathlib.Omega.{arith}
 use lib.ListN.{length}
 use lib.Seq.{slice, slice-cons, slice_empty}
+use lib.Dec.{eqb}
+use borrow.Author.Tests.{eq-eqb, ne_eqb}
 use Rattle.rules.proofs.When.{equals, decided}
 use Rattle.wire.specs.Bytes.{byte, number4, all_zero, zeros}
 
@@ -34,6 +36,16 @@ module _ (s : List ℕ) (i e : ℕ) (less : i < e) (within : e ≤ length s) whe
       head_not zero t h = absurd (h refl)
       head_not (suc b) t h = refl
 
+  -- so where its first byte is not 0, the test of that byte says whether it is one
+  pub zeros_here : (byte s i ≡ 0 → ⊥) → eqb (byte s i) 0 ≡ zeros s i e
+  zeros_here n = ne_eqb _ 0 n ∙ sym (zeros_stop n)
+
+-- and so it does in a run of one byte
+pub zeros_one : (s : List ℕ) (i : ℕ) → i < length s → eqb (byte s i) 0 ≡ zeros s i (suc i)
+zeros_one s i h =
+    ⊎_elim (λ z. eq-eqb _ 0 z ∙ sym (zeros_none s (suc i)) ∙ zeros_pass s i (suc i) (omega arith) (omega arith) z) (zeros_here s i (suc i) (omega arith) (omega arith))
+    (decided _ (equals (byte s i) 0))
+
 -- four bytes of it at once, as the number in them: those at 4
 module _ (s : List ℕ) (e : ℕ) (less : 8 ≤ e) (within : e ≤ length s) where
   pub four_pass : number4 s 4 ≡ 0 → zeros s 8 e ≡ zeros s 4 e
@@ -57,3 +69,11 @@ module _ (s : List ℕ) (e : ℕ) (less : 8 ≤ e) (within : e ≤ length s) whe
 
       from_4 : zeros s 4 e ≡ false
       from_4 = ⊎_elim (λ a. sym (zeros_pass s 4 e (omega arith) within a) ∙ from_5 a) (zeros_stop s 4 e (omega arith) within) (decided _ (equals (byte s 4) 0))
+
+  pub four_here : (k : ℕ) → k ≡ number4 s 4 → (k ≡ 0 → ⊥) → eqb k 0 ≡ zeros s 4 e
+  four_here k is n = ne_eqb k 0 n ∙ sym (four_stop (λ z. n (is ∙ z)))
+
+  pub four_gone : (k : ℕ) → k ≡ number4 s 4 → k ≡ 0 → (t : Bool) → t ≡ zeros s 8 e → t ≡ zeros s 4 e
+  four_gone k is z t h = h ∙ four_pass (sym is ∙ z)
+
+pub ruleset zero_runs = (zeros_pass, zeros_here, zeros_one, four_here, four_gone)

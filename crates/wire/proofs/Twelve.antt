@@ -54,3 +54,20 @@ read_alike s t long same =
   where
     b : (i : ℕ) → (i <ᵇ 12) ≡ true → at s i ≡ at t i
     b i e = sym (get_or-take 12 s i 0 (ltb-true i 12 e)) ∙ ap (λ (l : List ℕ). at l i) same ∙ get_or-take 12 t i 0 (ltb-true i 12 e)
+
+-- each kind of header is read from the twelve bytes
+module _ (s : List ℕ) (long : 12 ≤ length s) where
+  front : take 12 s ≡ (at s 0 ∷ at s 1 ∷ at s 2 ∷ at s 3 ∷ at s 4 ∷ at s 5 ∷ at s 6 ∷ at s 7 ∷ at s 8 ∷ at s 9 ∷ at s 10 ∷ at s 11 ∷ [])
+  front = ap (take 12) (twelve s long)
+
+  pub message_front : read_message (take 12 s) ≡ read_message s
+  unfolding read_message number4 zeros
+  message_front = ap read_message front ∙ sym (ap read_message (twelve s long))
+
+  pub request_front : read_request (take 12 s) ≡ read_request s
+  unfolding read_request number4 zeros
+  request_front = ap read_request front ∙ sym (ap read_request (twelve s long))
+
+  pub trigger_front : read_trigger (take 12 s) ≡ read_trigger s
+  unfolding read_trigger number4 zeros
+  trigger_front = ap read_trigger front ∙ sym (ap read_trigger (twelve s long))

@@ -21,16 +21,18 @@ use Rattle.wire.specs.Header.{D1, read_message, read_request, read_trigger, read
 use Rattle.wire.specs.Setup.{fitting, matches, row, by_endpoint, to_endpoint, to_interface, to_feature, to_status, to_device, read_setup}
 use Rattle.wire.specs.When.{at, two_at, four_at, Zeros, Commands, Requests, Triggers, UnknownMsgID, BadCommand}
 use Rattle.wire.specs.When.{BadRequest, BadTrigger, Reserved, Means, header_given, HeaderLaw}
-use Rattle.wire.specs.When.{Column, ◌∣◌∣◌to◌∣◌∣◌▹◌∣◌, rows, Fits, Matches, SetupLaw}
+use Rattle.wire.specs.When.{Column, ◌∣◌∣◌to◌∣◌∣◌▹◌∣◌, rows, Fits, Matches, RowOf, SetupLaw}
 use Rattle.wire.specs.declared.types.Header.{Header}
-use Rattle.wire.specs.declared.types.Read.{Read}
-use Rattle.wire.specs.declared.types.Read.TheVariants.{Good, Fault}
+use Rattle.wire.specs.Header.{Read}
+use Rattle.std.specs.Prelude.{Ok, Err, Option, Some, None}
+use Rattle.rules.specs.Answers.{number_of}
+use Rattle.rules.specs.declared.refusal.Refusal.{Refusal}
 use Rattle.wire.specs.declared.types.Endpoint.{Endpoint}
 use Rattle.wire.specs.declared.types.Endpoint.TheVariants.{Out, In, Interrupt}
 use Rattle.wire.specs.declared.types.Row.{Row}
 use Rattle.wire.specs.declared.types.Row.TheVariants.{ClearFeature, SetFeature, GetStatus}
 use Rattle.wire.specs.declared.types.Setup.{Setup}
-use Rattle.wire.specs.declared.types.Setup.TheVariants.{Configure, Asks, NoRow}
+use Rattle.wire.specs.declared.types.Setup.TheVariants.{Asks}
 use Rattle.wire.proofs.Lawful.{good_lawful}
 
 -- ** bytes that are all 0
@@ -63,31 +65,31 @@ no_size : (s : List ℕ) → Tells (TransferSize s =ᵇ 0) (four_at s 4 ≡ 0)
 no_size s = let e = same_size s in in_words (λ z. omega arith) (λ z. omega arith) (equals (TransferSize s) 0)
 
 -- the number of what is read, and what is asked of it behind 10
-module _ (s : List ℕ) (P : Read → ℕ) (later : Read → ℕ → Type 0) (faults : (n : ℕ) → P (Fault n) ≡ n) (good : (h : Header) → Means s h → By P later (Good h)) where
+module _ (s : List ℕ) (P : Read → ℕ) (later : Read → ℕ → Type 0) (faults : (r : Refusal) → P (Err r) ≡ number_of r) (good : (h : Header) → Means s h → By P later (Ok h)) where
   module _ (long : HEADER ≤ length s) where
     message_when : Commands s → By P (λ r. 10 when BadCommand s ∣ later r) (read_message s)
     unfolding read_message
     message_when c =
-        shared _ (differs (at s 3) 0) (faults 10)
-        (λ _. shared _ (no_size s) (faults 10)
-        (λ _. shared _ (in_words (λ l. (λ e. omega arith, λ e. omega arith)) (λ n. omega arith) (is_less _ (at s 8))) (faults 10)
-        (λ _. line _ (negated (in_words (λ z. (z.0, z.1.0, z.1.1.0)) (λ z. (z.0, (z.1, (z.2, tt)))) (some_zeros s 9 3 HEADER refl long))) (faults 10)
+        shared _ (differs (at s 3) 0) (faults Refusal.Reserved)
+        (λ _. shared _ (no_size s) (faults Refusal.Reserved)
+        (λ _. shared _ (in_words (λ l. (λ e. omega arith, λ e. omega arith)) (λ n. omega arith) (is_less _ (at s 8))) (faults Refusal.Reserved)
+        (λ _. line _ (negated (in_words (λ z. (z.0, z.1.0, z.1.1.0)) (λ z. (z.0, (z.1, (z.2, tt)))) (some_zeros s 9 3 HEADER refl long))) (faults Refusal.Reserved)
         (λ _. good _ (c, refl, same_size s, refl)))))
 
     request_when : Requests s → By P (λ r. 10 when BadRequest s ∣ later r) (read_request s)
     unfolding read_request
     request_when c =
-        shared _ (differs (at s 3) 0) (faults 10)
-        (λ _. shared _ (no_size s) (faults 10)
-        (λ _. shared _ (in_words (λ n. (λ e. n (inl e), λ e. n (inr e))) (λ n. ⊎_elim n.0 n.1) (negated (one_of (equals (at s 8) 0) (equals (at s 8) D1)))) (faults 10)
-        (λ n. line _ (negated (in_words (λ z. (z.0, z.1.0)) (λ z. (z.0, (z.1, tt))) (some_zeros s 10 2 HEADER refl long))) (faults 10)
+        shared _ (differs (at s 3) 0) (faults Refusal.Reserved)
+        (λ _. shared _ (no_size s) (faults Refusal.Reserved)
+        (λ _. shared _ (in_words (λ n. (λ e. n (inl e), λ e. n (inr e))) (λ n. ⊎_elim n.0 n.1) (negated (one_of (equals (at s 8) 0) (equals (at s 8) D1)))) (faults Refusal.Reserved)
+        (λ n. line _ (negated (in_words (λ z. (z.0, z.1.0)) (λ z. (z.0, (z.1, tt))) (some_zeros s 10 2 HEADER refl long))) (faults Refusal.Reserved)
         (λ _. pick_all (By P _) _ _ _
-        (λ e. good _ (c, refl, same_size s, inl (eqb-true _ _ e, refl, refl)))
-        (λ e. good _ (c, refl, same_size s, inr (sure _ (equals (at s 8) 2) (λ d. n (eqb-false _ _ e, d)), refl, refl)))))))
+        (λ e. good _ (c, refl, same_size s, inl (eqb-true _ _ e, refl)))
+        (λ e. good _ (c, refl, same_size s, inr (sure _ (equals (at s 8) 2) (λ d. n (eqb-false _ _ e, d)), refl)))))))
 
     trigger_when : Triggers s → By P (λ r. 10 when BadTrigger s ∣ later r) (read_trigger s)
     unfolding read_trigger
-    trigger_when c = line _ (negated (in_words (λ z. search) (λ z. search) (some_zeros s 3 9 HEADER refl long))) (faults 10) (λ _. good _ (c, refl))
+    trigger_when c = line _ (negated (in_words (λ z. search) (λ z. search) (some_zeros s 3 9 HEADER refl long))) (faults Refusal.Reserved) (λ _. good _ (c, refl))
 
     kind_when : Not (UnknownMsgID s)
         → By P (λ r. 10 when Reserved s ∣ later r) (pick (MsgID s =ᵇ DEV_DEP_MSG_OUT) (read_message s) (pick (MsgID s =ᵇ REQUEST_DEV_DEP_MSG_IN) (read_request s) (read_trigger s)))
@@ -104,19 +106,20 @@ module _ (s : List ℕ) (P : Read → ℕ) (later : Read → ℕ → Type 0) (fa
   pub header_when : Not (length s ≡ 0) → By P (λ r. header_given s (later r)) (read_header s)
   unfolding read_header
   header_when some =
-      line _ (differs (length s % 4) 0) (faults 6)
+      line _ (differs (length s % 4) 0) (faults Refusal.NotInFours)
       (λ f.
       let fours = sure _ (equals (length s % 4) 0) f in
-      line _ (in_words (λ l. ⊎_elim inl (λ n. inr (omega arith)) (decided _ (equals (length s) 4))) (⊎_elim (λ e. omega arith) (λ e. omega arith)) (is_less (length s) HEADER)) (faults 7)
-      (λ long. line _ (one_of (equals (at s 1) 0) (differs (at s 2) (255 - at s 1))) (faults 8)
+      line _ (in_words (λ l. ⊎_elim inl (λ n. inr (omega arith)) (decided _ (equals (length s) 4)))
+      (⊎_elim (λ e. omega arith) (λ e. omega arith)) (is_less (length s) HEADER)) (faults Refusal.ShortHeader)
+      (λ long. line _ (one_of (equals (at s 1) 0) (differs (at s 2) (255 - at s 1))) (faults Refusal.BadTag)
       (λ _. line _ (in_words (λ n. (λ e. n (inl e), λ e. n (inr (inl e)), λ e. n (inr (inr e)))) (λ n. ⊎_elim n.0 (⊎_elim n.1 n.2))
-      (negated (one_of (equals (at s 0) 1) (one_of (equals (at s 0) 2) (equals (at s 0) 128))))) (faults 9)
+      (negated (one_of (equals (at s 0) 1) (one_of (equals (at s 0) 2) (equals (at s 0) 128))))) (faults Refusal.UnknownMsgId)
       (kind_when (let four : Not (length s ≡ 4) = λ e. long (inl e) in let eight : Not (length s ≡ 8) = λ e. long (inr e) in omega arith)))))
 
 -- what a good header says
 abbrev Says : List ℕ → Read → Type 0
-Says s (Good h) = Means s h
-Says s (Fault n) = Unit {0}
+Says s (Ok h) = Means s h
+Says s (Err n) = Unit {0}
 
 -- a line that is not that of 0
 past : {m : ℕ} {G B : Type 0} → ((0 ≡ suc m) × G) ⊎ (Not G × B) → B
@@ -133,15 +136,10 @@ header_law = record {
 
 -- ** a setup packet
 
-abbrev pub is_row : Setup → Bool
-is_row (Configure value) = true
-is_row (Asks asked) = true
-is_row NoRow = false
-
 -- what is read, `x`, is what the one row says that matches; or no row does
-pub data Right (s : List ℕ) (rs : List (Column × (ℕ → Setup))) (x : Setup) : Type 0 where
-  matched : T (is_row x) → Matches s rs x → ((y : Setup) → Matches s rs y → y ≡ x) → Right s rs x
-  unmatched : x ≡ NoRow → ((y : Setup) → Not (Matches s rs y)) → Right s rs x
+pub data Right (s : List ℕ) (rs : List (Column × (ℕ → Setup))) (x : Option Setup) : Type 0 where
+  matched : {y : Setup} → x ≡ Some y → Matches s rs y → ((z : Setup) → Matches s rs z → z ≡ y) → Right s rs x
+  unmatched : x ≡ None → ((y : Setup) → Not (Matches s rs y)) → Right s rs x
 
 -- a column that the packet shows
 record Key (s : List ℕ) : Type 0 where
@@ -168,19 +166,19 @@ module _ (s : List ℕ) where
   abbrev index : Key s
   index = record { column = λ c. c.index; seen = two_at s 4; same = λ c f. f.index }
 
-  end : Right s [] NoRow
+  end : Right s [] None
   end = unmatched refl (λ y m. m)
 
   -- a row, whose bytes 0 and 1 are seen
-  row_read : {c : Column} {asks : ℕ → Setup} → T (is_row (asks (two_at s 2))) → at s 0 ≡ c.type → at s 1 ≡ c.request
+  row_read : {c : Column} {asks : ℕ → Setup} → at s 0 ≡ c.type → at s 1 ≡ c.request
       → Right s ((c, asks) ∷ []) (row (matches s c.low c.high c.index c.size) (asks (two_at s 2)))
   unfolding fitting
-  row_read {c} {asks} k t r =
+  row_read {c} {asks} t r =
       pick_all (Right s ((c, asks) ∷ [])) _ _ _
       (λ e.
       let h = all_of tests e in
       let f : Fits c s = record { type = t; request = r; low = leb-true _ _ h.0; high = leb-true _ _ h.1.0; index = eqb-true _ _ h.1.1.0; size = eqb-true _ _ h.1.1.1.0 } in
-      matched k (inl (f, refl)) (λ y. ⊎_elim (λ m. m.1) absurd))
+      matched refl (inl (f, refl)) (λ y. ⊎_elim (λ m. m.1) absurd))
       (λ e. unmatched refl (λ y. ⊎_elim (λ m. true≢false (sym (of_all tests (all_pass m.0)) ∙ e)) (λ z. z)))
     where
       tests : List Bool
@@ -209,9 +207,9 @@ module _ (s : List ℕ) where
   of_drop (suc n) (r ∷ rs) y m = inr (of_drop n rs y m)
 
   -- the rows of one part, where none of the other matches
-  part : {rs part : List (Column × (ℕ → Setup))} {x : Setup} → ((y : Setup) → Matches s rs y → Matches s part y) → ((y : Setup) → Matches s part y → Matches s rs y)
+  part : {rs part : List (Column × (ℕ → Setup))} {x : Option Setup} → ((y : Setup) → Matches s rs y → Matches s part y) → ((y : Setup) → Matches s part y → Matches s rs y)
       → Right s part x → Right s rs x
-  part f g (matched i m k) = matched i (g _ m) (λ y l. k y (f y l))
+  part f g (matched e m k) = matched e (g _ m) (λ y l. k y (f y l))
   part f g (unmatched e k) = unmatched e (λ y l. k y (f y l))
 
   module _ (key : Key s) where
@@ -221,7 +219,7 @@ module _ (s : List ℕ) where
     none test (r ∷ rs) h e y (inr m) = none test rs (both_hold (test (key.column r.0)) _ h).1 e y m
 
     -- the first n rows have the value v, and the others have not
-    by_key : (n v : ℕ) {rs : List (Column × (ℕ → Setup))} {a b : Setup} → T (have (λ k. k =ᵇ v) key.column (take n rs)) → T (have (λ k. not (k =ᵇ v)) key.column (drop n rs))
+    by_key : (n v : ℕ) {rs : List (Column × (ℕ → Setup))} {a b : Option Setup} → T (have (λ k. k =ᵇ v) key.column (take n rs)) → T (have (λ k. not (k =ᵇ v)) key.column (drop n rs))
         → (key.seen ≡ v → Right s (take n rs) a) → Right s (drop n rs) b → Right s rs (pick (key.seen =ᵇ v) a b)
     by_key n v {rs} h l f g =
         pick_all (Right s rs) (key.seen =ᵇ v) _ _
@@ -233,37 +231,37 @@ module _ (s : List ℕ) where
       → Right s (t ∣ q ∣ 0 to 0 ∣ 0x01 ∣ size ▹ (λ _. Asks (asked Out)) ∣ t ∣ q ∣ 0 to 0 ∣ 0x82 ∣ size ▹ (λ _. Asks (asked In)) ∣ t ∣ q ∣ 0 to 0 ∣ 0x83 ∣ size ▹
       (λ _. Asks (asked Interrupt)) ∣ []) (by_endpoint s size asked)
   endpoints t q size asked e f =
-      by_key index 1 0x01 tt tt (λ _. row_read tt e f) (by_key index 1 0x82 tt tt (λ _. row_read tt e f) (by_key index 1 0x83 tt tt (λ _. row_read tt e f) end))
+      by_key index 1 0x01 tt tt (λ _. row_read e f) (by_key index 1 0x82 tt tt (λ _. row_read e f) (by_key index 1 0x83 tt tt (λ _. row_read e f) end))
 
   pub setup_read : Right s rows (read_setup s)
   unfolding read_setup to_endpoint to_interface to_feature to_status to_device
   setup_read =
       by_key type 4 0xA2 tt tt
-      (λ t. by_key request 1 1 tt tt (row_read tt t)
-      (by_key request 1 2 tt tt (row_read tt t)
-      (by_key request 1 3 tt tt (row_read tt t)
-      (by_key request 1 4 tt tt (row_read tt t) end))))
+      (λ t. by_key request 1 1 tt tt (row_read t)
+      (by_key request 1 2 tt tt (row_read t)
+      (by_key request 1 3 tt tt (row_read t)
+      (by_key request 1 4 tt tt (row_read t) end))))
       (by_key type 8 0xA1 tt tt
-      (λ t. by_key request 1 5 tt tt (row_read tt t)
-      (by_key request 1 6 tt tt (row_read tt t)
-      (by_key request 1 7 tt tt (row_read tt t)
-      (by_key request 1 64 tt tt (row_read tt t)
-      (by_key request 1 128 tt tt (row_read tt t)
-      (by_key request 1 160 tt tt (row_read tt t)
-      (by_key request 1 161 tt tt (row_read tt t)
-      (by_key request 1 162 tt tt (row_read tt t) end))))))))
+      (λ t. by_key request 1 5 tt tt (row_read t)
+      (by_key request 1 6 tt tt (row_read t)
+      (by_key request 1 7 tt tt (row_read t)
+      (by_key request 1 64 tt tt (row_read t)
+      (by_key request 1 128 tt tt (row_read t)
+      (by_key request 1 160 tt tt (row_read t)
+      (by_key request 1 161 tt tt (row_read t)
+      (by_key request 1 162 tt tt (row_read t) end))))))))
       (by_key type 6 0x02 tt tt
       (λ t. by_key request 3 1 tt tt (endpoints 0x02 1 0 ClearFeature t)
       (by_key request 3 3 tt tt (endpoints 0x02 3 0 SetFeature t) end))
       (by_key type 3 0x82 tt tt
       (λ t. by_key request 3 0 tt tt (endpoints 0x82 0 2 GetStatus t) end)
       (by_key type 1 0x00 tt tt
-      (λ t. by_key request 1 9 tt tt (row_read tt t) end)
+      (λ t. by_key request 1 9 tt tt (row_read t) end)
       end))))
 
 pub setup_law : SetupLaw read_setup
 setup_law s = by (read_setup s) (setup_read s)
   where
-    by : (x : Setup) → Right s rows x → Matches s rows x ⊎ ((x ≡ NoRow) × ((y : Setup) → Not (Matches s rows y)))
-    by x (matched i m k) = inl m
-    by x (unmatched e k) = inr (e, k)
+    by : (x : Option Setup) → Right s rows x → RowOf s x
+    by x (matched e m k) = subst (RowOf s) (sym e) m
+    by x (unmatched e k) = subst (RowOf s) (sym e) k

@@ -1,6 +1,6 @@
 -- Setup packets: which row of 01's table the eight bytes match. "wLength must equal the size given (house); wValue and wIndex are 0 unless said."
 -- Assumes nothing.
-use Rattle.std.specs.Prelude.{ℕ, Bool, List, [], ◌∷◌}
+use Rattle.std.specs.Prelude.{ℕ, Bool, List, [], ◌∷◌, Option, Some, None}
 use Rattle.rules.specs.Choice.{◌=ᵇ◌, ◌≤ᵇ◌, pick, ◌⇒◌∣◌, first, ◌&◌, all}
 use Rattle.wire.specs.Bytes.{byte, number2}
 use Rattle.wire.specs.declared.types.Endpoint.{Endpoint}
@@ -10,7 +10,7 @@ use Rattle.wire.specs.declared.types.Row.TheVariants.{InitiateAbortBulkOut, Chec
 use Rattle.wire.specs.declared.types.Row.TheVariants.{InitiateClear, CheckClearStatus, GetCapabilities, IndicatorPulse, ReadStatusByte}
 use Rattle.wire.specs.declared.types.Row.TheVariants.{RenControl, GoToLocal, LocalLockout, ClearFeature, SetFeature, GetStatus}
 use Rattle.wire.specs.declared.types.Setup.{Setup}
-use Rattle.wire.specs.declared.types.Setup.TheVariants.{Configure, Asks, NoRow}
+use Rattle.wire.specs.declared.types.Setup.TheVariants.{Configure, Asks}
 
 -- "setup not 8 bytes"
 abbrev pub SETUP : ℕ
@@ -66,31 +66,31 @@ fitting value low high at index long size = all (low ≤ᵇ value & value ≤ᵇ
 abbrev pub matches : List ℕ → ℕ → ℕ → ℕ → ℕ → Bool
 matches s low high index size = fitting (wValue s) low high (wIndex s) index (wLength s) size
 
-abbrev pub row : Bool → Setup → Setup
-row fits what = pick fits what NoRow
+abbrev pub row : Bool → Setup → Option Setup
+row fits what = pick fits (Some what) None
 
 -- the row of the table with the packet's bRequest, where its other columns fit
-abbrev pub found : List ℕ → List Columns → Setup
-found s [] = NoRow
+abbrev pub found : List ℕ → List Columns → Option Setup
+found s [] = None
 found s (r ∷ below) =
     pick (bRequest s =ᵇ r.request)
     (row (matches s r.low r.high r.index r.size) (r.asks (wValue s)))
     (found s below)
 
 -- "by endpoint": the row of Bulk-OUT, of Bulk-IN, or of Interrupt-IN
-abbrev pub of_endpoint : List ℕ → ℕ → Row → Row → Row → Setup
+abbrev pub of_endpoint : List ℕ → ℕ → Row → Row → Row → Option Setup
 of_endpoint s size out inward interrupt =
     first
     (wIndex s =ᵇ BULK_OUT ⇒ row (matches s 0 0 BULK_OUT size) (Asks out) ∣
     wIndex s =ᵇ BULK_IN ⇒ row (matches s 0 0 BULK_IN size) (Asks inward) ∣
     wIndex s =ᵇ INTERRUPT_IN ⇒ row (matches s 0 0 INTERRUPT_IN size) (Asks interrupt) ∣ [])
-    NoRow
+    None
 
-abbrev pub by_endpoint : List ℕ → ℕ → (Endpoint → Row) → Setup
+abbrev pub by_endpoint : List ℕ → ℕ → (Endpoint → Row) → Option Setup
 by_endpoint s size asked = of_endpoint s size (asked Out) (asked In) (asked Interrupt)
 
 -- "Class requests to .. an endpoint A2"
-unfoldable pub to_endpoint : List ℕ → Setup
+unfoldable pub to_endpoint : List ℕ → Option Setup
 to_endpoint s =
     found s
     (bRequest≡ 1 wValue≡ 1 to 255 wIndex≡ BULK_OUT wLength≡ 2 ▹ (λ tag. Asks (InitiateAbortBulkOut tag)) ∣
@@ -99,7 +99,7 @@ to_endpoint s =
     bRequest≡ 4 wValue≡ 0 to 0 wIndex≡ BULK_IN wLength≡ 8 ▹ (λ _. Asks CheckAbortBulkInStatus) ∣ [])
 
 -- "Class requests to the interface are A1"
-unfoldable pub to_interface : List ℕ → Setup
+unfoldable pub to_interface : List ℕ → Option Setup
 to_interface s =
     found s
     (bRequest≡ 5 wValue≡ 0 to 0 wIndex≡ 0 wLength≡ 1 ▹ (λ _. Asks InitiateClear) ∣
@@ -112,19 +112,19 @@ to_interface s =
     bRequest≡ 162 wValue≡ 0 to 0 wIndex≡ 0 wLength≡ 1 ▹ (λ _. Asks LocalLockout) ∣ [])
 
 -- "02 1, 02 3 CLEAR_, SET_FEATURE halt, by endpoint"
-unfoldable pub to_feature : List ℕ → Setup
-to_feature s = first (bRequest s =ᵇ 1 ⇒ by_endpoint s 0 ClearFeature ∣ bRequest s =ᵇ 3 ⇒ by_endpoint s 0 SetFeature ∣ []) NoRow
+unfoldable pub to_feature : List ℕ → Option Setup
+to_feature s = first (bRequest s =ᵇ 1 ⇒ by_endpoint s 0 ClearFeature ∣ bRequest s =ᵇ 3 ⇒ by_endpoint s 0 SetFeature ∣ []) None
 
 -- "82 0 GET_STATUS, by endpoint"
-unfoldable pub to_status : List ℕ → Setup
-to_status s = first (bRequest s =ᵇ 0 ⇒ by_endpoint s 2 GetStatus ∣ []) NoRow
+unfoldable pub to_status : List ℕ → Option Setup
+to_status s = first (bRequest s =ᵇ 0 ⇒ by_endpoint s 2 GetStatus ∣ []) None
 
 -- "00 9 SET_CONFIGURATION; wValue 0 or 1"
-unfoldable pub to_device : List ℕ → Setup
+unfoldable pub to_device : List ℕ → Option Setup
 to_device s = found s (bRequest≡ 9 wValue≡ 0 to 1 wIndex≡ 0 wLength≡ 0 ▹ (λ value. Configure value) ∣ [])
 
 -- the request type first, then bRequest
-unfoldable pub read_setup : List ℕ → Setup
+unfoldable pub read_setup : List ℕ → Option Setup
 read_setup s =
     first
     (bmRequestType s =ᵇ 0xA2 ⇒ to_endpoint s ∣
@@ -132,4 +132,4 @@ read_setup s =
     bmRequestType s =ᵇ 0x02 ⇒ to_feature s ∣
     bmRequestType s =ᵇ 0x82 ⇒ to_status s ∣
     bmRequestType s =ᵇ 0x00 ⇒ to_device s ∣ [])
-    NoRow
+    None

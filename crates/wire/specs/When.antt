@@ -1,19 +1,17 @@
 -- 01, "Given when", for what bytes alone decide: what a header is refused for, and which rows a setup packet can match. Each condition stands by
 -- itself, over bytes at their places; nothing here is the reader's.
 -- Assumes nothing.
-use Rattle.std.specs.Prelude.{ℕ, ◌+◌, ◌-◌, ◌*◌, ◌%◌, ◌≤◌, ◌≡◌, List, [], ◌∷◌, ◌⊎◌, length, get_or}
+use Rattle.std.specs.Prelude.{ℕ, ◌+◌, ◌-◌, ◌*◌, ◌%◌, ◌≤◌, ◌≡◌, List, [], ◌∷◌, ◌⊎◌, Ok, length, get_or, Option, Some, None, MatchOption}
 use Rattle.rules.specs.When.{Not, ◌when◌∣◌, else_0}
-use Rattle.wire.specs.Header.{header_number}
+use Rattle.wire.specs.Header.{Read, header_number}
 use Rattle.wire.specs.declared.types.Endpoint.TheVariants.{Out, In, Interrupt}
 use Rattle.wire.specs.declared.types.Header.{Header}
 use Rattle.wire.specs.declared.types.Header.TheVariants.{Message, Request, Trigger}
-use Rattle.wire.specs.declared.types.Read.{Read}
-use Rattle.wire.specs.declared.types.Read.TheVariants.{Good}
 use Rattle.wire.specs.declared.types.Row.TheVariants.{InitiateAbortBulkOut, CheckAbortBulkOutStatus, InitiateAbortBulkIn, CheckAbortBulkInStatus}
 use Rattle.wire.specs.declared.types.Row.TheVariants.{InitiateClear, CheckClearStatus, GetCapabilities, IndicatorPulse, ReadStatusByte}
 use Rattle.wire.specs.declared.types.Row.TheVariants.{RenControl, GoToLocal, LocalLockout, ClearFeature, SetFeature, GetStatus}
 use Rattle.wire.specs.declared.types.Setup.{Setup}
-use Rattle.wire.specs.declared.types.Setup.TheVariants.{Configure, Asks, NoRow}
+use Rattle.wire.specs.declared.types.Setup.TheVariants.{Configure, Asks}
 
 -- the byte at a place, and the number in two bytes or in four, the least significant first
 abbrev pub at : List ℕ → ℕ → ℕ
@@ -143,9 +141,9 @@ Matches s (r ∷ rs) x = (Fits r.0 s × (x ≡ r.1 (two_at s 2))) ⊎ Matches s 
 -- what a good header says: its kind, its tag, its TransferSize, and what is behind it
 abbrev pub Means : List ℕ → Header → Type 0
 Means s (Message tag size end) = Commands s × (tag ≡ at s 1) × (size ≡ four_at s 4) × (end ≡ at s 8)
-Means s (Request tag size enabled term) =
+Means s (Request tag size term) =
     Requests s × (tag ≡ at s 1) × (size ≡ four_at s 4)
-    × (((at s 8 ≡ 0) × (enabled ≡ 0) × (term ≡ 0)) ⊎ ((at s 8 ≡ 2) × (enabled ≡ 1) × (term ≡ at s 9)))
+    × (((at s 8 ≡ 0) × (term ≡ None)) ⊎ ((at s 8 ≡ 2) × (term ≡ Some (at s 9))))
 Means s (Trigger tag) = Triggers s × (tag ≡ at s 1)
 
 -- "a header then goes 6, 7, 8, 9, 10"
@@ -160,8 +158,12 @@ header_given s later =
 -- THE LAW of headers: the first of the five that applies, and where none does, what the bytes say
 pub record HeaderLaw (reads : List ℕ → Read) : Type 0 where
   pub faults : (s : List ℕ) → Not (length s ≡ 0) → header_given s else_0 (header_number (reads s))
-  pub meaning : (s : List ℕ) (h : Header) → reads s ≡ Good h → Means s h
+  pub meaning : (s : List ℕ) (h : Header) → reads s ≡ Ok h → Means s h
 
--- THE LAW of setup packets: the row that the bytes match, or none where they match none
-abbrev pub SetupLaw : (List ℕ → Setup) → Type 0
-SetupLaw reads = (s : List ℕ) → Matches s rows (reads s) ⊎ ((reads s ≡ NoRow) × ((x : Setup) → Not (Matches s rows x)))
+-- the row that the bytes match, or none where they match none
+abbrev pub RowOf : List ℕ → Option Setup → Type 0
+RowOf s x = MatchOption x ((y : Setup) → Not (Matches s rows y)) (λ y. Matches s rows y)
+
+-- THE LAW of setup packets: it is read
+abbrev pub SetupLaw : (List ℕ → Option Setup) → Type 0
+SetupLaw reads = (s : List ℕ) → RowOf s (reads s)

@@ -1,4 +1,5 @@
 // What a Bulk-OUT header and a setup packet can say.
+use rules::refusal::Refusal;
 
 // The endpoints, by their addresses.
 pub const BULK_OUT: u8 = 0x01;
@@ -12,7 +13,7 @@ pub const SETUP: usize = 8;
 
 pub const CONTROL: usize = 24;
 
-// A header that has no fault of its own. `end` is 1 with EOM, `enabled` is 1 with TermCharEnabled, else each is 0; without it `term` is 0.
+// A header that has no fault of its own. `end` is 1 with EOM, else 0, as the unit keeps it; `term` is the TermChar, where it is enabled.
 #[derive(Clone, Copy)]
 pub enum Header {
     Message {
@@ -23,20 +24,15 @@ pub enum Header {
     Request {
         tag: u8,
         size: u32,
-        enabled: u8,
-        term: u8,
+        term: Option<u8>,
     },
     Trigger {
         tag: u8,
     },
 }
 
-// A header, or the number of its first fault.
-#[derive(Clone, Copy)]
-pub enum Read {
-    Good { header: Header },
-    Fault { number: u8 },
-}
+// A header, or its first fault.
+pub type Read = Result<Header, Refusal>;
 
 // The endpoints that feature and status rows name.
 #[derive(Clone, Copy)]
@@ -46,7 +42,7 @@ pub enum Endpoint {
     Interrupt,
 }
 
-// The rows of document 01's table of setup packets that a configured unit serves.
+// The rows of document 01's table of setup packets that a configured unit serves. What a row says of wValue is its low byte, as it came.
 #[derive(Clone, Copy)]
 pub enum Row {
     InitiateAbortBulkOut { tag: u8 },
@@ -66,10 +62,9 @@ pub enum Row {
     GetStatus { endpoint: Endpoint },
 }
 
-// What a setup packet asks: SET_CONFIGURATION, which every unit serves, another row, or none.
+// What a setup packet that matches a row asks: SET_CONFIGURATION, which every unit serves, or another row.
 #[derive(Clone, Copy)]
 pub enum Setup {
     Configure { value: u8 },
     Asks { row: Row },
-    NoRow,
 }

@@ -1,10 +1,10 @@
 // Reading a Bulk-OUT header: what it says, or its first fault; and writing a Bulk-IN header.
 ghost use Rattle.std.specs.Prelude.{◌≡◌, ℕ, ◌≤◌, length};
 ghost use Rattle.wire.specs.Bytes.{zeros, into};
-ghost use Rattle.wire.specs.Header.{HEADER, not_in_fours, read_message, read_request, read_trigger, read_header, in_header};
+ghost use Rattle.wire.specs.Header.{HEADER, inverse, not_in_fours, read_message, read_request, read_trigger, read_header, in_header};
 
 use crate::numbers::{bytes_of, le_u32};
-use rules::{BAD_TAG, NOT_IN_FOURS, RESERVED, SHORT_HEADER, UNKNOWN_MSGID};
+use rules::refusal::Refusal;
 use wire::types::{Header, Read};
 
 // Bytes of a header.
@@ -25,122 +25,101 @@ pub const D0: u8 = 1;
 
 pub const D1: u8 = 2;
 
-// The last two bytes of a header are 0, the last three, and the last nine.
-fn two_zeros(s: &[u8]) -> bool
-    requires { HEADER ≤ length s.now }
-    ensures { result ≡ zeros s.now 10 HEADER }
+fn inverse(tag: u8) -> u8
+    ensures { result ≡ inverse tag }
 {
-    if s[10] != 0 {
-        return false;
-    }
-    if s[11] != 0 {
-        return false;
-    }
-    true
+    255 - tag
 }
 
-fn three_zeros(s: &[u8]) -> bool
-    requires { HEADER ≤ length s.now }
-    ensures { result ≡ zeros s.now 9 HEADER }
+// The last two bytes of a header are 0; the last three; and so on, to the last nine. Each is the one above it and a test more: a loop over
+// so few bytes would test its own end as often.
+#[tactic(auto, using(wire::proofs::Bytes::zero_runs))]
+fn two_zeros(h: &[u8; HEADER]) -> bool
+    ensures { result ≡ zeros h.now 10 HEADER }
 {
-    if s[9] != 0 {
-        return false;
-    }
-    two_zeros(s)
+    h[10] == 0 && h[11] == 0
 }
 
-fn nine_zeros(s: &[u8]) -> bool
-    requires { HEADER ≤ length s.now }
-    ensures { result ≡ zeros s.now 3 HEADER }
+#[tactic(auto, using(wire::proofs::Bytes::zero_runs))]
+fn three_zeros(h: &[u8; HEADER]) -> bool
+    ensures { result ≡ zeros h.now 9 HEADER }
 {
-    if s[3] != 0 {
-        return false;
-    }
-    if le_u32(s, 4) != 0 {
-        return false;
-    }
-    if s[8] != 0 {
-        return false;
-    }
-    three_zeros(s)
+    h[9] == 0 && two_zeros(h)
+}
+
+#[tactic(auto, using(wire::proofs::Bytes::zero_runs))]
+fn four_zeros(h: &[u8; HEADER]) -> bool
+    ensures { result ≡ zeros h.now 8 HEADER }
+{
+    h[8] == 0 && three_zeros(h)
+}
+
+#[tactic(auto, using(wire::proofs::Bytes::zero_runs))]
+fn eight_zeros(h: &[u8; HEADER]) -> bool
+    ensures { result ≡ zeros h.now 4 HEADER }
+{
+    le_u32(h, 4) == 0 && four_zeros(h)
+}
+
+#[tactic(auto, using(wire::proofs::Bytes::zero_runs))]
+fn nine_zeros(h: &[u8; HEADER]) -> bool
+    ensures { result ≡ zeros h.now 3 HEADER }
+{
+    h[3] == 0 && eight_zeros(h)
 }
 
 // DEV_DEP_MSG_OUT.
-fn read_message(s: &[u8]) -> Read
-    requires { HEADER ≤ length s.now }
-    ensures { result ≡ read_message s.now }
+#[tactic(auto, using(rules::proofs::Choice::picks), unfolding(wire::specs::Header::read_message))]
+fn read_message(h: &[u8; HEADER]) -> Read
+    ensures { result ≡ read_message h.now }
 {
-    if s[3] != 0 {
-        return Read::Fault { number: RESERVED };
+    let size = le_u32(h, 4);
+    let end = h[8];
+    if h[3] != 0 || size == 0 || D0 < end || !three_zeros(h) {
+        return Err(Refusal::Reserved);
     }
-    let size = le_u32(s, 4);
-    if size == 0 {
-        return Read::Fault { number: RESERVED };
-    }
-    let end = s[8];
-    if D0 < end {
-        return Read::Fault { number: RESERVED };
-    }
-    if three_zeros(s) {
-        return Read::Good {
-            header: Header::Message {
-                tag: s[1],
-                size,
-                end,
-            },
-        };
-    }
-    Read::Fault { number: RESERVED }
+    Ok(Header::Message {
+        tag: h[1],
+        size,
+        end,
+    })
 }
 
 // REQUEST_DEV_DEP_MSG_IN.
-fn read_request(s: &[u8]) -> Read
-    requires { HEADER ≤ length s.now }
-    ensures { result ≡ read_request s.now }
+#[tactic(auto, using(rules::proofs::Choice::picks), unfolding(wire::specs::Header::read_request))]
+fn read_request(h: &[u8; HEADER]) -> Read
+    ensures { result ≡ read_request h.now }
 {
-    if s[3] != 0 {
-        return Read::Fault { number: RESERVED };
+    let size = le_u32(h, 4);
+    if h[3] != 0 || size == 0 || !two_zeros(h) {
+        return Err(Refusal::Reserved);
     }
-    let size = le_u32(s, 4);
-    if size == 0 {
-        return Read::Fault { number: RESERVED };
-    }
-    if !two_zeros(s) {
-        return Read::Fault { number: RESERVED };
-    }
-    let bits = s[8];
-    match bits {
-        0 => Read::Good {
-            header: Header::Request {
-                tag: s[1],
-                size,
-                enabled: 0,
-                term: 0,
-            },
-        },
-        D1 => Read::Good {
-            header: Header::Request {
-                tag: s[1],
-                size,
-                enabled: 1,
-                term: s[9],
-            },
-        },
-        _ => Read::Fault { number: RESERVED },
+    let tag = h[1];
+    match h[8] {
+        0 => Ok(Header::Request {
+            tag,
+            size,
+            term: None,
+        }),
+        D1 => Ok(Header::Request {
+            tag,
+            size,
+            term: Some(h[9]),
+        }),
+        _ => Err(Refusal::Reserved),
     }
 }
 
 // TRIGGER.
-fn read_trigger(s: &[u8]) -> Read
-    requires { HEADER ≤ length s.now }
-    ensures { result ≡ read_trigger s.now }
+#[tactic(auto, using(rules::proofs::Choice::picks), unfolding(wire::specs::Header::read_trigger))]
+fn read_trigger(h: &[u8; HEADER]) -> Read
+    ensures { result ≡ read_trigger h.now }
 {
-    if nine_zeros(s) {
-        return Read::Good {
-            header: Header::Trigger { tag: s[1] },
-        };
+    if nine_zeros(h) {
+        Ok(Header::Trigger { tag: h[1] })
+    } else {
+        Err(Refusal::Reserved)
     }
-    Read::Fault { number: RESERVED }
 }
 
 // A packet whose length is no multiple of four, be it a header's or one that goes on with a transfer.
@@ -151,53 +130,47 @@ pub fn not_in_fours(s: &[u8]) -> bool
 }
 
 // The header at the start of a packet.
+#[tactic(auto, using(rules::proofs::Choice::picks), unfolding(wire::specs::Header::read_header))]
 pub fn read_header(s: &[u8]) -> Read
     ensures { result ≡ read_header s.now }
 {
     if not_in_fours(s) {
-        return Read::Fault {
-            number: NOT_IN_FOURS,
-        };
+        return Err(Refusal::NotInFours);
     }
-    if s.len() < HEADER {
-        return Read::Fault {
-            number: SHORT_HEADER,
-        };
+    let Some(h) = s.first_chunk::<HEADER>() else {
+        return Err(Refusal::ShortHeader);
+    };
+    let tag = h[1];
+    if tag == 0 || h[2] != inverse(tag) {
+        return Err(Refusal::BadTag);
     }
-    let tag = s[1];
-    if tag == 0 {
-        return Read::Fault { number: BAD_TAG };
-    }
-    if s[2] != 255 - tag {
-        return Read::Fault { number: BAD_TAG };
-    }
-    let id = s[0];
-    match id {
-        DEV_DEP_MSG_OUT => read_message(s),
-        REQUEST_DEV_DEP_MSG_IN => read_request(s),
-        TRIGGER => read_trigger(s),
-        _ => Read::Fault {
-            number: UNKNOWN_MSGID,
-        },
+    match h[0] {
+        DEV_DEP_MSG_OUT => read_message(h),
+        REQUEST_DEV_DEP_MSG_IN => read_request(h),
+        TRIGGER => read_trigger(h),
+        _ => Err(Refusal::UnknownMsgId),
     }
 }
 
 // A Bulk-IN header in the first 12 bytes; every other byte stays.
+#[tactic(auto, unfolding(wire::specs::Header::in_header, wire::specs::Bytes::bytes4, wire::specs::Bytes::into))]
 pub fn write_header(buf: &mut [u8], tag: u8, n: u32, attributes: u8)
     requires { HEADER ≤ length buf.old }
     ensures { buf.new ≡ into (in_header tag n attributes) buf.old }
 {
-    let size = bytes_of(n);
-    buf[0] = REQUEST_DEV_DEP_MSG_IN;
-    buf[1] = tag;
-    buf[2] = 255 - tag;
-    buf[3] = 0;
-    buf[4] = size[0];
-    buf[5] = size[1];
-    buf[6] = size[2];
-    buf[7] = size[3];
-    buf[8] = attributes;
-    buf[9] = 0;
-    buf[10] = 0;
-    buf[11] = 0;
+    let [a, b, c, d] = bytes_of(n);
+    buf[..HEADER].copy_from_slice(&[
+        REQUEST_DEV_DEP_MSG_IN,
+        tag,
+        inverse(tag),
+        0,
+        a,
+        b,
+        c,
+        d,
+        attributes,
+        0,
+        0,
+        0,
+    ]);
 }

@@ -1,48 +1,23 @@
-// Numbers of two and four bytes, least significant first, by shifts and masks: nothing multiplies or divides (02, request 3).
-ghost use Rattle.std.specs.Prelude.{◌≡◌, ℕ, ◌+◌, ◌/◌, ◌%◌, ◌<◌, ◌≤◌, min, length};
+// Numbers of two and four bytes, least significant first, by shifts and masks: nothing multiplies or divides (02, request 3), as the library's
+// from_le_bytes and to_le_bytes do.
+ghost use Rattle.std.specs.Prelude.{◌≡◌, ℕ, ◌+◌, ◌/◌, ◌%◌, ◌<◌, ◌≤◌, length};
 ghost use Rattle.wire.specs.Bytes.{number2, number4, bytes4};
-
-fn wide(x: u8) -> u32
-    ensures { (result ≡ x) × (result < 256) }
-{
-    x as u32
-}
-
-// A count of 16 bits as a length.
-pub fn widened(x: u16) -> usize
-    ensures { (result ≡ x) × (result < 65536) }
-{
-    x as usize
-}
-
-// The lesser of two counts.
-pub fn least(a: usize, b: usize) -> usize
-    ensures { result ≡ min a b }
-{
-    if a < b {
-        return a;
-    }
-    b
-}
 
 // The number in the two bytes from `at` on.
 pub fn le_u16(s: &[u8], at: usize) -> u32
     requires { at + 2 ≤ length s.now }
     ensures { (result ≡ number2 s.now at) × (result < 65536) }
 {
-    let a = wide(s[at]);
-    let b = wide(s[at + 1]);
-    a + (b << 8)
+    u32::from(s[at]) + (u32::from(s[at + 1]) << 8)
 }
 
 // The number in the four bytes from `at` on.
+#[tactic(auto, unfolding(wire::specs::Bytes::number4))]
 pub fn le_u32(s: &[u8], at: usize) -> u32
     requires { at + 4 ≤ length s.now }
     ensures { result ≡ number4 s.now at }
 {
-    let low = le_u16(s, at);
-    let high = le_u16(s, at + 2);
-    low + (high << 16)
+    le_u16(s, at) + (le_u16(s, at + 2) << 16)
 }
 
 // The low byte of a number, and the one above it.
@@ -59,13 +34,10 @@ pub fn high(n: u32) -> u8
 }
 
 // The four bytes of a number.
+#[tactic(auto, unfolding(wire::specs::Bytes::bytes4))]
 pub fn bytes_of(n: u32) -> [u8; 4]
     ensures { result ≡ bytes4 n }
 {
     let upper = n >> 16;
-    let a = low(n);
-    let b = high(n);
-    let c = low(upper);
-    let d = high(upper);
-    [a, b, c, d]
+    [low(n), high(n), low(upper), high(upper)]
 }

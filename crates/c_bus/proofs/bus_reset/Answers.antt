@@ -3,10 +3,8 @@ use Rattle.port.specs.Step.{bus_reset}
 use mathlib.Core.List.{[]}
 use Rattle.c_bus.proofs.bus_reset.Goals as goal
 
-pub returns-then-number-ne0 : goal.returns-then-number-ne0
-returns-then-number-ne0 c = bus_refused c.args.u.now _ c.bus_number-number.ensures [] _ bus_reset c.if-number-ne0.true c.numbered.ensures
+pub returns-in-Err : goal.returns-in-Err
+returns-in-Err c = bus_refused c.args.u.now _ c.sound_state.ensures [] _ bus_reset _ c.in-Err.is c.refused.ensures
 
-pub returns : goal.returns
-returns c =
-    reset_done c.args.u.now _ c.bus_number-number.ensures _ _ c.if-number-ne0.false
-    (rw c.port_of-p.ensures at c.make.ensures) c.numbered-2.ensures
+pub returns-in-Ok : goal.returns-in-Ok
+returns-in-Ok c = reset_done c.args.u.now _ c.sound_state.ensures _ _ _ c.in-Ok.is c.make.ensures c.done.ensures

@@ -9,7 +9,7 @@ pub copy_in-requires : goal.copy_in-requires
 copy_in-requires c =
     let a = c.args in
     let f = data_fits a.u.now a.s.now a.count c.requires in
-    let w = rw c.out_of-o.ensures at c.widened.ensures.0 in
+    let w = rw c.out_of-o.ensures at c.from.ensures in
     let l = c.requires.lent.long in
     (omega (arith, f.0.0, f.0.1), omega (arith, f.1))
 
@@ -18,5 +18,5 @@ returns c =
     let a = c.args in
     let o = c.out_of-o.ensures in
     let x = rw o at c.absorbed-after.ensures in
-    data_done a.u.now a.s.now _ _ a.count c.requires _ _ (rw (c.widened.ensures.0, o) at c.copy_in.ensures)
-    (rw x at c.put_out_message.ensures) (rw x at c.put_out_transfer.ensures) c.numbered.ensures
+    data_done a.u.now a.s.now _ _ a.count c.requires _ _ (rw (c.from.ensures, o) at c.copy_in.ensures)
+    (rw x at c.put.ensures) (rw x at c.put-2.ensures) c.done.ensures

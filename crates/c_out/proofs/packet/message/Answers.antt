@@ -17,7 +17,7 @@ pub copy_in-requires : goal.copy_in-requires
 copy_in-requires c =
     let a = c.args in
     let f = message_fits a.u.now a.s.now a.tag a.size a.end a.count c.requires in
-    let w = rw c.out_of-o.ensures at c.widened.ensures.0 in
+    let w = rw c.out_of-o.ensures at c.from.ensures in
     let l = c.requires.lent.long in
     (omega (arith, f.0.0, f.0.1), omega (arith, f.1))
 
@@ -26,6 +26,6 @@ returns c =
     let a = c.args in
     let o = c.out_of-o.ensures in
     let x = rw (c.opened.ensures, o) at c.absorbed-after.ensures in
-    message_done a.u.now a.s.now _ _ a.tag a.size a.end a.count c.requires _ _ _ _ (rw (c.widened.ensures.0, o) at c.copy_in.ensures)
-    (rw x at c.put_out_message.ensures) (rw x at c.put_out_transfer.ensures) c.put_out_recent.ensures
-    (rw (c.headed.ensures, c.port_of-p.ensures, c.remote_of-r.ensures) at c.put_remote.ensures) c.numbered.ensures
+    message_done a.u.now a.s.now _ _ a.tag a.size a.end a.count c.requires _ _ _ _ (rw (c.from.ensures, o) at c.copy_in.ensures)
+    (rw x at c.put.ensures) (rw x at c.put-2.ensures) c.put_byte.ensures
+    (rw (c.headed.ensures, c.part_of-p.ensures, c.part_of-r.ensures) at c.put-3.ensures) c.done.ensures

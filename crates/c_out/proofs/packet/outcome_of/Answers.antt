@@ -1,10 +1,11 @@
-use Rattle.c_promise.proofs.Called.{on_sound, on_other}
 use mathlib.Core.Path.{refl}
-use native.Mathlib.Omega.{arith}
+use Rattle.port.specs.Out.{outcome}
+use Rattle.port.specs.declared.types.Outcome.TheVariants.{Keep}
+use Rattle.c_promise.proofs.Called.{by_state, by_none}
 use Rattle.c_out.proofs.packet.outcome_of.Goals as goal
 
-pub returns-then-is_sound : goal.returns-then-is_sound
-returns-then-is_sound c = on_sound c.is_sound.ensures (omega arith) c.if-is_sound.true (rw c.state_of.ensures at c.outcome.ensures)
+pub returns-in-Err : goal.returns-in-Err
+returns-in-Err c = by_none c.sound_state.ensures Keep refl _ c.in-Err.is _ refl
 
-pub returns : goal.returns
-returns c = on_other c.is_sound.ensures (omega arith) c.if-is_sound.false refl
+pub returns-in-Ok : goal.returns-in-Ok
+returns-in-Ok c = by_state c.sound_state.ensures (λ st. outcome st c.args.s.now) refl _ c.in-Ok.is _ c.outcome.ensures

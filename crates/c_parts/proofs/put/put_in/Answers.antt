@@ -9,5 +9,4 @@ returns c =
     let a = c.args in
     let b = a.b in
     paste_pieces a.u.now IN_REPLY_AT (in_reply_bytes b.reply ∷ in_transfer_bytes b.transfer ∷ (b.halted ∷ []) ∷ (b.recent ∷ []) ∷ []) _
-    (piece c.put_in_reply.ensures (piece c.put_in_transfer.ensures
-    (piece c.put_in_halted.ensures (piece c.put_in_recent.ensures none)))) (omega arith)
+    (piece c.put.ensures (piece c.put-2.ensures (piece c.put_byte.ensures (piece c.put_byte-2.ensures none)))) (omega arith)

@@ -9,5 +9,4 @@ returns c =
     let a = c.args in
     let o = a.o in
     paste_pieces a.u.now OUT_MESSAGE_AT (out_message_bytes o.message ∷ (o.halted ∷ []) ∷ out_transfer_bytes o.transfer ∷ (o.recent ∷ []) ∷ []) _
-    (piece c.put_out_message.ensures (piece c.put_out_halted.ensures
-    (piece c.put_out_transfer.ensures (piece c.put_out_recent.ensures none)))) (omega arith)
+    (piece c.put.ensures (piece c.put_byte.ensures (piece c.put-2.ensures (piece c.put_byte-2.ensures none)))) (omega arith)

@@ -13,5 +13,5 @@ returns c =
     let st = a.st in
     paste_pieces a.u.now PORT_AT (port_bytes (port_of st) ∷ out_bytes (out_of st) ∷ in_bytes (in_of st) ∷ interrupt_bytes (interrupt_of st) ∷ split_bytes
     st.split ∷ (remote_number st.remote ∷ []) ∷ []) _
-    (piece c.put_port.ensures (piece c.put_out.ensures (piece c.put_in.ensures
-    (piece c.put_interrupt.ensures (piece c.put_split.ensures (piece c.put_remote.ensures none)))))) (omega arith)
+    (piece c.put.ensures (piece c.put_out.ensures (piece c.put_in.ensures
+    (piece c.put-2.ensures (piece c.put-3.ensures (piece c.put-4.ensures none)))))) (omega arith)

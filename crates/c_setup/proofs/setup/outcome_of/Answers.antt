@@ -1,11 +1,14 @@
-use Rattle.c_promise.proofs.Called.{on_sound, on_other}
 use mathlib.Core.Path.{refl}
-use native.Mathlib.Omega.{arith}
+use Rattle.std.specs.Prelude.{Err}
+use Rattle.std.proofs.lemmas.Result.{err_from_is_err_and}
+use Rattle.port.specs.Calls.{setup_outcome}
+use Rattle.c_promise.proofs.Called.{by_state, by_none}
 use Rattle.c_setup.proofs.setup.outcome_of.Goals as goal
 
-pub returns-then-is_sound : goal.returns-then-is_sound
-returns-then-is_sound c =
-    on_sound c.is_sound.ensures (omega arith) c.if-is_sound.true (rw c.state_of.ensures at c.setup_outcome.ensures)
+pub returns-in_err-sound_state : goal.returns-in_err-sound_state
+returns-in_err-sound_state c =
+    let p = err_from_is_err_and c.from_residual.result c.from_residual.ensures.1 in
+    by_none c.sound_state.ensures Err refl _ c.in_err-sound_state.was _ (rw (p.1, p.2) refl)
 
 pub returns : goal.returns
-returns c = on_other c.is_sound.ensures (omega arith) c.if-is_sound.false refl
+returns c = by_state c.sound_state.ensures (λ st. setup_outcome st c.args.s.now c.args.room) refl _ c.in_ok-sound_state.was _ c.setup_outcome.ensures

@@ -6,4 +6,4 @@ pub returns : goal.returns
 returns c =
     let a = c.args in
     renewed a.u.now a.s.now a.b.now _ _ _ a.value c.requires
-    (rw c.port_of-p.ensures at c.make.ensures) refl c.numbered.ensures
+    (rw c.part_of-p.ensures at c.make.ensures) refl c.done.ensures

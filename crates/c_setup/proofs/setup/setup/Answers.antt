@@ -3,12 +3,10 @@ use mathlib.Core.List.{[]}
 use Rattle.c_setup.proofs.setup.setup.Goals as goal
 
 pub renews-requires : goal.renews-requires
-renews-requires c = rw c.in-Renews.is at c.outcome_of-x.ensures
+renews-requires c = rw (c.in-Ok-Configure.is, c.in-Ok-Configure.field-0-is) at c.outcome_of.ensures
 
 pub answers-requires : goal.answers-requires
-answers-requires c = rw c.in-Answers.is at c.outcome_of-x.ensures
+answers-requires c = rw (c.in-Ok-Asks.is, c.in-Ok-Asks.field-0-is) at c.outcome_of.ensures
 
-pub returns-in-Denies : goal.returns-in-Denies
-returns-in-Denies c =
-    let a = c.args in
-    denied a.u.now a.s.now a.b.now [] [] _ _ (rw c.in-Denies.is at c.outcome_of-x.ensures) c.numbered.ensures
+pub returns-in-Err : goal.returns-in-Err
+returns-in-Err c = let a = c.args in denied a.u.now a.s.now a.b.now [] [] _ _ (rw c.in-Err.is at c.outcome_of.ensures) c.refused.ensures

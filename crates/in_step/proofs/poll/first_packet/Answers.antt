@@ -1,25 +1,15 @@
 use Rattle.in_step.proofs.PollLaws.{sendable_some, first_cuts}
 use Rattle.port.specs.In.{fixed}
-use Rattle.port.specs.declared.types.BulkIn.{BulkIn}
-use mathlib.Core.Path.{ap, ◌∙◌}
 use native.Mathlib.Omega.{arith}
 use Rattle.in_step.proofs.poll.first_packet.Goals as goal
 
 pub term_mark-requires : goal.term_mark-requires
-unfolding fixed
 term_mark-requires c =
     let a = c.args in
     let p = c.requires in
     let r = p.1.reply in
     let some = sendable_some a.b a.reply.now (omega arith) p.1.asked p.1.unsent in
-    rw (c.widened-n.ensures.0, c.fixed-started.ensures) (omega arith, omega arith, omega arith)
-
-pub put_data-requires : goal.put_data-requires
-unfolding fixed
-put_data-requires c =
-    let r = c.requires.1.reply in
-    rw c.fixed-started.ensures
-    (record { left = omega arith; reply = r; sent = omega arith }, (omega arith, omega arith), omega arith, omega arith)
+    rw c.sendable-n.ensures (omega arith, omega arith, omega arith)
 
 pub returns : goal.returns
 unfolding fixed
@@ -27,7 +17,6 @@ returns c =
     let a = c.args in
     let p = c.requires in
     let r = p.1.reply in
-    let n = c.widened-n.ensures.0 ∙ ap (λ (b : BulkIn). b.transfer.left) c.fixed-started.ensures in
-    let e = rw c.fixed-started.ensures at c.put_data.ensures in
+    let e = rw (c.carrying-started.ensures, c.sending_in.ensures, c.sendable-n.ensures) at c.put_data.ensures in
     let w = rw (c.end_mark.ensures.0, c.term_mark.ensures.0) at c.write_header.ensures in
-    first_cuts a.p a.b a.reply.now a.buf.now _ _ (omega arith) _ _ p.0 p.2.0 n w e.0 e.1
+    first_cuts a.p a.b a.reply.now a.buf.now _ _ (omega arith) _ _ p.0 p.2.0 c.sendable-n.ensures w e.0 e.1

@@ -4,8 +4,5 @@ use Rattle.in_step.proofs.poll.next_packet.Goals as goal
 pub returns-then-b-eq-OWED : goal.returns-then-b-eq-OWED
 returns-then-b-eq-OWED c = rw c.shut.ensures (owed_cuts _ _ _ _ c.if-b-eq-OWED.true)
 
-pub packet-requires : goal.packet-requires
-packet-requires c = let p = c.requires in (p.0 c.if-b-eq-OWED.false, p.1)
-
-pub returns : goal.returns
-returns c = open_cuts _ _ _ _ _ _ c.if-b-eq-OWED.false c.packet.ensures
+pub returns-else-b-eq-OWED : goal.returns-else-b-eq-OWED
+returns-else-b-eq-OWED c = open_cuts _ _ _ _ _ _ c.if-b-eq-OWED.false c.packet.ensures

@@ -1,26 +1,22 @@
--- `replay::rest::move_down` meets its contract: after each turn so many bytes are moved as have been counted.
-use mathlib.Core.Path.{◌≡◌, refl, ap, ◌∙◌}
+-- `replay::rest::move_down` meets its contract.
+use mathlib.Core.Path.{◌≡◌, sym, ap, ◌∙◌}
+use Prim.Native.Nat.{◌-◌}
 use native.Mathlib.Omega.{arith}
-use lib.ListN.{length, drop, length-set, length-drop, length-take}
-use lib.Seq.{paste, slice}
-use Rattle.replay.proofs.Moving.{move_more, moved}
+use lib.ListN.{length, drop, length-drop, length-take}
+use lib.Seq.{paste, paste-zero, slice}
+use Rattle.replay.proofs.Moving.{moved}
 use Rattle.replay.proofs.rest.move_down.Goals as goal
 
--- how many bytes there are between the two places is how many were moved
-
-pub loop-i-init : goal.loop-i-init
-loop-i-init c = (omega arith, omega arith, refl, rw (c.first_part-filled.ensures, length-take) (omega arith), refl)
-
-pub loop-i-preserved : goal.loop-i-preserved
-loop-i-preserved c =
-    let inv = c.loop-i.invariant in
-    (omega arith, omega arith, simp length-set inv.2, inv.3, move_more _ _ _ _ _ inv.0 (omega arith) inv.4)
+pub returns-then-filled-from : goal.returns-then-filled-from
+returns-then-filled-from c =
+    let a = c.args in
+    let l = a.input.now in
+    let none : length (slice a.from a.end l) ≡ 0 = simp (length-drop, length-take) (omega arith) in
+    (sym (paste-zero l 0 (drop a.from l)) ∙ ap (paste l 0 (drop a.from l)) (sym none) ∙ moved a.from a.end l, sym none)
 
 pub returns : goal.returns
 returns c =
-    let start = c.args in
-    let inv = c.loop-i.invariant in
-    let l = start.input.now in
-    let filled = ap length c.first_part-filled.ensures in
-    let all : c.loop-i.count ≡ length (slice start.from start.end l) = rw length-drop (omega arith) in
-    (inv.4 ∙ ap (paste l 0 (drop start.from l)) all ∙ moved start.from start.end l, all)
+    let a = c.args in
+    let l = a.input.now in
+    let all : c.min-filled.result - a.from ≡ length (slice a.from a.end l) = simp (length-drop, length-take) (omega arith) in
+    (c.copy_within.ensures.after ∙ ap (paste l 0 (drop a.from l)) all ∙ moved a.from a.end l, all)

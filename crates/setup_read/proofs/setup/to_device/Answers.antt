@@ -7,13 +7,4 @@ use Rattle.setup_read.proofs.setup.to_device.Goals as goal
 
 pub returns-in-9 : goal.returns-in-9
 unfolding to_device
-returns-in-9 c =
-    rw (
-      c.configuration.ensures,
-      c.matches.ensures,
-      tag_row c.args.s.now 0 1 0 0 Configure (omega arith),
-    ) (search picks depth 10)
-
-pub returns-in_default : goal.returns-in_default
-unfolding to_device
-returns-in_default c = search picks depth 8
+returns-in-9 c = rw (c.asked_where.ensures, c.matches.ensures, tag_row c.args.s.now 0 1 0 0 Configure (omega arith)) (search picks depth 10)

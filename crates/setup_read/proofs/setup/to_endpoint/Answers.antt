@@ -9,31 +9,10 @@ use Rattle.setup_read.proofs.setup.to_endpoint.Goals as goal
 pub returns-in-1 : goal.returns-in-1
 unfolding to_endpoint
 returns-in-1 c =
-    rw (
-      c.row.ensures,
-      c.matches.ensures,
-      tag_row c.args.s.now 1 255 1 2
-          (λ n. Asks (InitiateAbortBulkOut n)) (omega arith),
-    ) (search picks depth 14)
-
-pub returns-in-2 : goal.returns-in-2
-unfolding to_endpoint
-returns-in-2 c = rw (c.row-in-2.ensures, c.matches-in-2.ensures) (search picks depth 14)
+    rw (c.row.ensures, c.matches.ensures, tag_row c.args.s.now 1 255 1 2 (λ n. Asks (InitiateAbortBulkOut n)) (omega arith)) (search picks depth 14)
 
 pub returns-in-3 : goal.returns-in-3
 unfolding to_endpoint
 returns-in-3 c =
-    rw (
-      c.row-in-3.ensures,
-      c.matches-in-3.ensures,
-      tag_row c.args.s.now 1 255 0x82 2
-          (λ n. Asks (InitiateAbortBulkIn n)) (omega arith),
-    ) (search picks depth 14)
-
-pub returns-in-4 : goal.returns-in-4
-unfolding to_endpoint
-returns-in-4 c = rw (c.row-in-4.ensures, c.matches-in-4.ensures) (search picks depth 14)
-
-pub returns-in_default : goal.returns-in_default
-unfolding to_endpoint
-returns-in_default c = search picks depth 14
+    rw (c.row-in-3.ensures, c.matches-in-3.ensures, tag_row c.args.s.now 1 255 0x82 2 (λ n. Asks (InitiateAbortBulkIn n)) (omega arith))
+    (search picks depth 14)

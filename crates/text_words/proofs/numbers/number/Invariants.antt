@@ -1,12 +1,9 @@
 -- `text_words::numbers::number` meets its contract: what was read, with what is left, is the number, and it only grows.
-use Prim.Native.Nat.{◌-◌, ◌≤◌}
+use Prim.Native.Nat.{◌≤◌}
 use mathlib.Core.Path.{◌≡◌}
-use lib.ListN.{length, drop}
+use lib.ListN.{drop}
 use Rattle.text_words.specs.Numbers.{number, number_from}
 use Rattle.text_words.proofs.numbers.number.Given as goal
 
-abbrev pub invariant-loop-i : goal.invariant-loop-i
-invariant-loop-i l = (l.n ≤ l.most) × (number l.word ≡ number_from l.n (drop l.i l.word))
-
-abbrev pub decreases-loop-i : goal.decreases-loop-i
-decreases-loop-i l = length l.word - l.i
+abbrev pub invariant-loop-digit : goal.invariant-loop-digit
+invariant-loop-digit l = (l.n ≤ l.most) × (number l.word ≡ number_from l.n (drop l.digit-index l.word))

@@ -1,11 +1,8 @@
--- `text_words::words::nth_word` meets its contract: after i turns the word is word i.
-use Prim.Native.Nat.{◌-◌, ◌≤◌}
+-- `text_words::words::nth_word` meets its contract: the words of what is left are the later ones of the text.
+use Prim.Native.Nat.{ℕ, ◌+◌}
 use mathlib.Core.Path.{◌≡◌}
-use Rattle.text_words.specs.Words.{word_at}
+use Rattle.text_words.specs.Words.{word}
 use Rattle.text_words.proofs.words.nth_word.Given as goal
 
-abbrev pub invariant-loop-i : goal.invariant-loop-i
-invariant-loop-i l = (l.i ≤ l.n) × (l.word ≡ word_at l.i l.text)
-
-abbrev pub decreases-loop-i : goal.decreases-loop-i
-decreases-loop-i l = l.n - l.i
+abbrev pub invariant-loop : goal.invariant-loop
+invariant-loop l = (k : ℕ) → word k l.rest ≡ word (l.counter + k) l.text

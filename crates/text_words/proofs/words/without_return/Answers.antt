@@ -1,35 +1,41 @@
 -- `text_words::words::without_return` meets its contract: an empty line has no last byte.
-use Prim.Native.Nat.{ℕ, ◌-◌}
-use mathlib.Core.Path.{◌≡◌, sym}
-use mathlib.Core.List.{List}
+use Prim.Native.Nat.{ℕ, suc, ◌+◌, ◌-◌}
+use mathlib.Core.Path.{◌≡◌, refl, sym, ap, ◌∙◌}
+use mathlib.Core.Bool.{Bool, true, false, ◌&&◌}
+use mathlib.Core.List.{List, [], ◌∷◌}
 use native.Mathlib.Omega.{arith}
-use borrow.Author.Tests.{eq-eqb, ne_eqb}
-use lib.ListN.{length, get_or, take, get_or-eq_default}
-use lib.Seq.{length-take-le}
+use lib.Dec.{eqb}
+use lib.ListN.{length, get_or, take, drop, drop_of_length-le}
+use lib.Pointwise.{pointwise}
+use lib.Seq.{drop-cons}
+use denote.Bor.{Bor}
+use Rattle.std.specs.Prelude.{Option, Some, None}
+use Rattle.std.specs.Option.{MatchOption, unwrap_or}
 use Rattle.rules.proofs.Choice.{at_true, at_false}
 use Rattle.text_words.specs.Words.{without_return}
 use Rattle.text_words.proofs.words.without_return.Goals as goal
 
-module _ (s : List ℕ) where
-  kept : (get_or s (length s - 1) 0 ≡ 13 → ⊥) → s ≡ without_return s
-  unfolding without_return
-  kept h = sym (at_false _ _ _ (ne_eqb _ _ h))
+alone : (t : Bool) → (t && true) ≡ t
+alone true = refl
+alone false = refl
 
-  cut : get_or s (length s - 1) 0 ≡ 13 → take (length s - 1) s ≡ without_return s
-  unfolding without_return
-  cut h = sym (at_true _ _ _ (eq-eqb _ _ h))
+abbrev ends : List ℕ → Bool
+ends s = pointwise eqb (drop (length s - 1) s) (13 ∷ [])
 
-  empty : length s ≡ 0 → s ≡ without_return s
-  empty h = kept (λ e. omega (arith, e, get_or-eq_default s 0 {n = length s - 1} (omega arith)))
+last_at : (s : List ℕ) (i : ℕ) → i + 1 ≡ length s → pointwise eqb (drop i s) (13 ∷ []) ≡ eqb (get_or s i 0) 13
+last_at s i h = rw (drop-cons s i 0 (omega arith), drop_of_length-le s {i = suc i} (omega arith)) (alone _)
 
-pub returns-then-n-eq0 : goal.returns-then-n-eq0
-returns-then-n-eq0 c = empty c.args.line.now c.if-n-eq0.true
+-- what stands at the end is the last byte
+last : (s : List ℕ) → ends s ≡ eqb (get_or s (length s - 1) 0) 13
+last [] = refl
+last (b ∷ s) = last_at (b ∷ s) (length (b ∷ s) - 1) (omega arith)
 
-pub slice_bounds-result-end : goal.slice_bounds-result-end
-slice_bounds-result-end c = sym (length-take-le _ _ (omega arith))
-
-pub returns-then-line-last-eq13 : goal.returns-then-line-last-eq13
-returns-then-line-last-eq13 c = cut c.args.line.now c.if-line-last-eq13.true
+cut : (line : Bor (List ℕ)) (r : Option (Bor (List ℕ)))
+    → MatchOption r (ends line.now ≡ false) (λ x. (ends line.now ≡ true) × (x.now ≡ take (length line.now - 1) line.now) × (length x.now + 1 ≡ length line.now))
+    → (unwrap_or r line).now ≡ without_return line.now
+unfolding without_return
+cut line None h = sym (at_false _ _ _ (sym (last line.now) ∙ h))
+cut line (Some x) h = h.1 ∙ sym (at_true _ _ _ (sym (last line.now) ∙ h.0))
 
 pub returns : goal.returns
-returns c = kept c.args.line.now c.if-line-last-eq13.false
+returns c = ap (λ (x : Bor (List ℕ)). x.now) c.unwrap_or.ensures ∙ cut c.args.line _ c.strip_suffix.ensures.cases

@@ -10,5 +10,5 @@ returns-then-sound c =
 
 pub returns : goal.returns
 returns c =
-    rw c.only-2.ensures (reset_refused (device_of c.args.self)
+    rw c.from.ensures (reset_refused (device_of c.args.self)
     (sym (rw c.state-st.ensures at c.sound.ensures) ∙ c.if-sound.false))

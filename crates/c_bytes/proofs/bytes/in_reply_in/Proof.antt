@@ -1,6 +1,0 @@
-use borrow.Author.Rules.{rules}
-use Rattle.c_bytes.proofs.bytes.in_reply_in.Statement.{statement}
-use Rattle.c_bytes.proofs.bytes.in_reply_in.Tie as tie
-
-pub in_reply_in_spec : {M : Type 1} → statement M
-in_reply_in_spec = tie.close (tie.spec (λ c κs. search rules) (λ c κs. search rules) (λ c. cc))

@@ -1,4 +1,0 @@
-use Rattle.c_parts.proofs.put.put_in_reply.Goals as goal
-
-pub returns : goal.returns
-returns c = rw c.in_reply_bytes-b.ensures at c.copy_in.ensures

@@ -1,8 +1,0 @@
--- `replay::calls::overview` meets its contract.
-use mathlib.Core.Path.{refl}
-use Rattle.replay.specs.Play.{carried_out}
-use Rattle.replay.proofs.calls.overview.Goals as goal
-
-pub returns : goal.returns
-unfolding carried_out
-returns c = record { unit = refl; text = c.put_overview-end.ensures }

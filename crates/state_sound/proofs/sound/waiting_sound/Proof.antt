@@ -1,9 +1,0 @@
-use Rattle.port.specs.Sound.{waiting_sound}
-use Rattle.rules.proofs.Choice.{picks}
-use borrow.Author.Rules.{rules}
-use Rattle.state_sound.proofs.sound.waiting_sound.Statement.{statement}
-use Rattle.state_sound.proofs.sound.waiting_sound.Tie as tie
-
-pub waiting_sound_spec : {M : Type 1} → statement M
-unfolding waiting_sound
-waiting_sound_spec = tie.close (tie.spec (λ c. search picks depth 20) (λ c κs. search rules) (λ c. search picks depth 20))

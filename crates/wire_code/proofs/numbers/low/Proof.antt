@@ -1,6 +1,0 @@
-use lib.Bits.{and_mask, mask_lt}
-use Rattle.wire_code.proofs.numbers.low.Statement.{statement}
-use Rattle.wire_code.proofs.numbers.low.Tie as tie
-
-pub low_spec : {M : Type 1} → statement M
-low_spec = tie.close (tie.spec (λ c. record { fits = mask_lt c.args.n 8 }) (λ c. and_mask c.args.n 8))
