@@ -35,7 +35,7 @@ pub const SPLIT: usize = 3;
 
 // ** numbers of 16 bits; the library's from_le_bytes multiplies, and its to_le_bytes divides
 
-// The number from `at` on.
+// The number from `at` on, of a part that has it: parts are of several sizes.
 fn number_at(b: &[u8], at: usize) -> u16
     requires { at + 2 ≤ length b.now }
     ensures { result ≡ number2 b.now at }

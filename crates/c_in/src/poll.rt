@@ -21,7 +21,7 @@ use rules::DONE;
 use rules::refusal::Refusal;
 use rules::verdict::only;
 
-// The first rule that applies to a poll into `room` bytes refuses it.
+// The first rule that applies to a poll into `room` bytes refuses it. Each call from C has this line, with its own gate in it.
 fn gate(u: &[u8; UNIT], room: usize) -> Result<(), Refusal>
     ensures { IsGate u.now (in_rules (state_in u.now) room) result }
 {

@@ -1,4 +1,4 @@
-// Answers with no bytes.
+// Answers with no bytes: of C's type, as those of state_parts are of a state's.
 ghost use Rattle.std.specs.Prelude.{◌≡◌};
 ghost use Rattle.rules.specs.Answers.{DONE, number_of};
 ghost use Rattle.port.specs.Answer.{numbered};

@@ -16,6 +16,7 @@ fn put_flag(page: &mut Page, flag: bool)
     page.put_byte(if flag { b'1' } else { b'0' });
 }
 
+// Four letters each, and no Display: a page leaves out what does not fit.
 fn remote_name(remote: Remote) -> [u8; 4]
     ensures { result ≡ remote_text remote }
 {

@@ -1,4 +1,4 @@
-// The answers to lines that cannot be read: `? ` and what is wrong, in words.
+// The answers to lines that cannot be read: `? ` and what is wrong, in words. A function for each: they differ in nothing but the words.
 ghost use Rattle.std.specs.Prelude.{◌≡◌};
 ghost use Rattle.text_put.specs.Text.{typed};
 ghost use Rattle.text_answers.specs.Wrong.{shown_byte, quoted_text, wrong_text, too_long_text, unknown_name_text, too_few_words_text};

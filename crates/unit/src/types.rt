@@ -19,7 +19,8 @@ pub struct Done {
     pub verdict: Verdict,
 }
 
-// The unit after a call that writes a lent buffer: `len` bytes of it, from its start on.
+// The unit after a call that writes a lent buffer: `len` bytes of it, from its start on. What the steps hand back has a state or an effect in
+// its place: the definitions have each as a record of its own.
 #[derive(Clone, Copy)]
 pub struct Told {
     pub unit: Unit,
