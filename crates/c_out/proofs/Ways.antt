@@ -6,11 +6,8 @@ use mathlib.Core.List.{List, [], ◌∷◌}
 use native.Mathlib.Omega.{arith}
 use lib.ListN.{length, drop, length-drop}
 use lib.Seq.{paste, paste-zero}
-use Rattle.std.specs.Prelude.{Option}
 use Rattle.rules.specs.Choice.{◌=ᵇ◌}
-use Rattle.rules.specs.Answers.{DONE, TELLS_TRIGGER, number_of}
-use Rattle.rules.specs.declared.refusal.Refusal.{Refusal}
-use Rattle.rules.specs.declared.refusal.Refusal.TheVariants.{Unsound}
+use Rattle.rules.specs.Answers.{DONE, UNSOUND, TELLS_TRIGGER}
 use Rattle.rules.proofs.Choice.{at_true, at_false, pick_all}
 use Rattle.wire.specs.Header.{HEADER}
 use Rattle.wire.specs.declared.types.Header.{Header}
@@ -25,7 +22,7 @@ use Rattle.port.specs.Step.{Call, out_packet, soundly}
 use Rattle.port.specs.declared.types.BulkOut.{BulkOut}
 use Rattle.port.specs.declared.types.State.{State}
 use Rattle.port.specs.declared.types.Outcome.{Outcome}
-use Rattle.port.specs.declared.types.Outcome.TheVariants.{Nothing, Keep, Halt, Data, Accept}
+use Rattle.port.specs.declared.types.Outcome.TheVariants.{Keep, Halt, Data, Accept}
 use Rattle.port.proofs.Calls.{unplanned}
 use Rattle.out_step.proofs.Packets.{Carried, outcome_carried}
 use Rattle.c_bytes.specs.Layout.{OUT_MESSAGE, OUT_TRANSFER, IN_TRANSFER, REMOTE_AT, OUT_MESSAGE_AT, OUT_TRANSFER_AT, OUT_RECENT_AT, IN_TRANSFER_AT}
@@ -41,22 +38,19 @@ absorbed_parts : (o : BulkOut) (count : ℕ) → holding o (absorbed o count).me
 unfolding absorbed
 absorbed_parts o count = pick_all (λ (x : BulkOut). holding o x.message x.transfer ≡ x) (o.transfer.left =ᵇ count) (completed o count) (continued o count) (λ _. refl) (λ _. refl)
 
-nothing_other : Nothing ≡ Keep Unsound → ⊥
-nothing_other e = cc
-
-halt_other : {k : Refusal} → Halt k ≡ Keep Unsound → ⊥
+halt_other : {n : ℕ} → Halt n ≡ Keep UNSOUND → ⊥
 halt_other e = cc
 
-data_other : {count : ℕ} → Data count ≡ Keep Unsound → ⊥
+data_other : {count : ℕ} → Data count ≡ Keep UNSOUND → ⊥
 data_other e = cc
 
-accept_other : {h : Header} {count : ℕ} → Accept h count ≡ Keep Unsound → ⊥
+accept_other : {h : Header} {count : ℕ} → Accept h count ≡ Keep UNSOUND → ⊥
 accept_other e = cc
 
 -- ** data that is to be stored finds room
 
 module _ (u s : List ℕ) where
-  carried : {x : Outcome} → (x ≡ Keep Unsound → ⊥) → ComesTo u s x → Carried (state_in u) s x
+  carried : {x : Outcome} → (x ≡ Keep UNSOUND → ⊥) → ComesTo u s x → Carried (state_in u) s x
   carried other h = subst (Carried (state_in u) s) (comes h other) (outcome_carried (state_in u) s (state_sound u (sound_unit h other)))
 
   pub data_fits : (count : ℕ) → ComesTo u s (Data count) → CanAbsorb (out_of (state_in u)) count × (count ≤ length s)
@@ -73,16 +67,16 @@ module _ (u s : List ℕ) (u' : List ℕ) (r : TmcAnswer) where
   abbrev call : Call
   call = out_packet s
 
-  pub kept_out : (k : Refusal) → ComesTo u s (Keep k) → r ≡ answer_of (numbered (number_of k)) → Returns (on_bytes u call) u r
+  pub kept_out : (n : ℕ) → ComesTo u s (Keep n) → r ≡ answer_of (numbered n) → Returns (on_bytes u call) u r
   unfolding unit_in soundly bulk_out out_plan planned
-  kept_out k h a =
-      kept u h.lent call (number_of k) r a
-      (stays u h.lent call (number_of k)
-      (λ e. ap (λ (x : Outcome). with_message (unit_in u) s (planned (state_in u) x)) (sym (h.is ∙ at_true _ _ _ e)) ∙ unplanned (unit_in u) s (number_of k))
-      (λ e. let z = h.is ∙ at_false _ _ _ e in let same : k ≡ Unsound = cc in ap number_of same))
+  kept_out n h a =
+      kept u h.lent call n r a
+      (stays u h.lent call n
+      (λ e. ap (λ (x : Outcome). with_message (unit_in u) s (planned (state_in u) x)) (sym (h.is ∙ at_true _ _ _ e)) ∙ unplanned (unit_in u) s n)
+      (λ e. let k = h.is ∙ at_false _ _ _ e in cc))
 
   -- an outcome that is not Keep is that of a sound unit
-  module _ {x : Outcome} (other : x ≡ Keep Unsound → ⊥) (h : ComesTo u s x) where
+  module _ {x : Outcome} (other : x ≡ Keep UNSOUND → ⊥) (h : ComesTo u s x) where
     before : Holds (unit_in u) u
     before = holds u h.lent (sound_unit h other)
 
@@ -95,14 +89,9 @@ module _ (u s : List ℕ) (u' : List ℕ) (r : TmcAnswer) where
       → Holds (record { message = paste (unit_in u).message (out_of (state_in u)).message.held s 0; reply = (unit_in u).reply; state = st }) u'
   plainly st k = subst (λ (m : List ℕ). Holds (record { message = m; reply = (unit_in u).reply; state = st }) u') (paste-zero (unit_in u).message (out_of (state_in u)).message.held s) k
 
-  pub nothing_done : ComesTo u s Nothing → u' ≡ u → r ≡ answer_of (numbered DONE) → Returns (on_bytes u call) u' r
+  pub halted : (n : ℕ) → ComesTo u s (Halt n) → u' ≡ paste u OUT_MESSAGE_AT (out_bytes (broken 1 (out_of (state_in u)))) OUT → r ≡ answer_of (numbered n) → Returns (on_bytes u call) u' r
   unfolding unit_in planned
-  nothing_done h f a = returned nothing_other h (plainly _ (subst (Holds (unit_in u)) (sym f) (before nothing_other h))) a
-
-  pub halted : (k : Refusal) → ComesTo u s (Halt k) → u' ≡ paste u OUT_MESSAGE_AT (out_bytes (broken 1 (out_of (state_in u)))) OUT → r ≡ answer_of (numbered (number_of k))
-      → Returns (on_bytes u call) u' r
-  unfolding unit_in planned
-  halted k h f a = returned halt_other h (plainly _ ((out_put (broken 1 (out_of (state_in u)))).to (before halt_other h) f)) a
+  halted n h f a = returned halt_other h (plainly _ ((out_put (broken 1 (out_of (state_in u)))).to (before halt_other h) f)) a
 
   pub data_done : (count : ℕ) → ComesTo u s (Data count) → (v w : List ℕ) → v ≡ paste u (out_of (state_in u)).message.held s count
       → w ≡ paste v OUT_MESSAGE_AT (out_message_bytes (absorbed (out_of (state_in u)) count).message) OUT_MESSAGE
@@ -141,12 +130,12 @@ module _ (u s : List ℕ) (u' : List ℕ) (r : TmcAnswer) where
         (record { message = paste (unit_in u).message o.message.held (drop HEADER s) count; reply = (unit_in u).reply; state = with_remote (with_out (state_in u) p) remote }) u')
         (absorbed_parts opening count) whole) a
 
-  pub request_done : (tag size : ℕ) (term : Option ℕ) (count : ℕ) → ComesTo u s (Accept (Request tag size term) count) → (v w : List ℕ) → v ≡ paste u OUT_RECENT_AT (tag ∷ []) 1
-      → w ≡ paste v IN_TRANSFER_AT (in_transfer_bytes (asked_in tag (min size STORE) term)) IN_TRANSFER → u' ≡ paste w IN_RECENT_AT (tag ∷ []) 1
+  pub request_done : (tag size enabled term count : ℕ) → ComesTo u s (Accept (Request tag size enabled term) count) → (v w : List ℕ) → v ≡ paste u OUT_RECENT_AT (tag ∷ []) 1
+      → w ≡ paste v IN_TRANSFER_AT (in_transfer_bytes (asked_in tag (min size STORE) enabled term)) IN_TRANSFER → u' ≡ paste w IN_RECENT_AT (tag ∷ []) 1
       → r ≡ answer_of (numbered DONE) → Returns (on_bytes u call) u' r
   unfolding unit_in planned accepted
-  request_done tag size term count h v w f g k a =
-      returned accept_other h (plainly _ ((in_recent_put tag).to ((in_transfer_put (asked_in tag (min size STORE) term)).to ((out_recent_put tag).to (before accept_other h) f) g) k)) a
+  request_done tag size enabled term count h v w f g k a =
+      returned accept_other h (plainly _ ((in_recent_put tag).to ((in_transfer_put (asked_in tag (min size STORE) enabled term)).to ((out_recent_put tag).to (before accept_other h) f) g) k)) a
 
   pub trigger_done : (tag count : ℕ) → ComesTo u s (Accept (Trigger tag) count) → u' ≡ paste u OUT_RECENT_AT (tag ∷ []) 1
       → r ≡ answer_of (record { verdict = record { number = DONE; tells = TELLS_TRIGGER }; bytes = [] }) → Returns (on_bytes u call) u' r

@@ -7,13 +7,12 @@ ghost use Rattle.c_promise.specs.Promise.{ComesTo, on_bytes, Returns};
 use c_bytes::places::{IN_RECENT_AT, OUT_RECENT_AT, UNIT};
 use c_parts::put::{put, put_byte, put_out};
 use c_parts::read::{in_of, out_of, part_of};
-use c_promise::answer::{done, refused};
+use c_promise::answer::{done, numbered};
 use c_promise::state::sound_state;
 use c_promise::types::TmcAnswer;
 use out_outcome::outcome::outcome;
 use out_step::sides::{absorbed, opened, requested};
 use port::types::{Outcome, Port, Remote};
-use rules::refusal::Refusal;
 use rules::verdict::Verdict;
 use rules::{DONE, TELLS_TRIGGER};
 use state_parts::parts::broken;
@@ -28,17 +27,19 @@ fn outcome_of(u: &[u8; UNIT], s: &[u8]) -> Outcome
 {
     match sound_state(u) {
         Ok(st) => outcome(st, s),
-        Err(refusal) => Outcome::Keep { refusal },
+        Err(refusal) => Outcome::Keep {
+            number: refusal.number(),
+        },
     }
 }
 
-fn halts(u: &mut [u8; UNIT], s: &[u8], refusal: Refusal) -> TmcAnswer
-    requires { ComesTo u.old s.now (Outcome.Halt refusal) }
+fn halts(u: &mut [u8; UNIT], s: &[u8], number: u8) -> TmcAnswer
+    requires { ComesTo u.old s.now (Outcome.Halt number) }
     ensures { Returns (on_bytes u.old (out_packet s.now)) u.new result }
 {
     let o = out_of(u);
     put_out(u, broken(1, o));
-    refused(refusal)
+    numbered(number)
 }
 
 // Data of the open transfer goes behind what the message holds.
@@ -77,14 +78,15 @@ fn request(
     s: &[u8],
     tag: u8,
     size: u32,
-    term: Option<u8>,
+    enabled: u8,
+    term: u8,
     count: usize,
 ) -> TmcAnswer
-    requires { ComesTo u.old s.now (Outcome.Accept (Header.Request tag size term) count) }
+    requires { ComesTo u.old s.now (Outcome.Accept (Header.Request tag size enabled term) count) }
     ensures { Returns (on_bytes u.old (out_packet s.now)) u.new result }
 {
     let b = in_of(u);
-    let after = requested(b, tag, size, term);
+    let after = requested(b, tag, size, enabled, term);
     put_byte(u, OUT_RECENT_AT, tag);
     put(u, after.transfer);
     put_byte(u, IN_RECENT_AT, tag);
@@ -112,7 +114,12 @@ fn accepts(u: &mut [u8; UNIT], s: &[u8], header: Header, count: usize) -> TmcAns
 {
     match header {
         Header::Message { tag, size, end } => message(u, s, tag, size, end, count),
-        Header::Request { tag, size, term } => request(u, s, tag, size, term, count),
+        Header::Request {
+            tag,
+            size,
+            enabled,
+            term,
+        } => request(u, s, tag, size, enabled, term, count),
         Header::Trigger { tag } => trigger(u, s, tag, count),
     }
 }
@@ -121,9 +128,8 @@ pub fn bulk_out(u: &mut [u8; UNIT], s: &[u8]) -> TmcAnswer
     ensures { Returns (on_bytes u.old (out_packet s.now)) u.new result }
 {
     match outcome_of(u, s) {
-        Outcome::Nothing => done(),
-        Outcome::Keep { refusal } => refused(refusal),
-        Outcome::Halt { refusal } => halts(u, s, refusal),
+        Outcome::Keep { number } => numbered(number),
+        Outcome::Halt { number } => halts(u, s, number),
         Outcome::Data { count } => data(u, s, count),
         Outcome::Accept { header, count } => accepts(u, s, header, count),
     }

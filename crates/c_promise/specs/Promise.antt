@@ -37,7 +37,7 @@ IsGate u rules told = Decided u (gate rules) (Err Unsound) told
 
 -- what a Bulk-OUT packet comes to: it is kept with 1 on those of no sound unit
 abbrev pub ComesTo : List ℕ → List ℕ → Outcome → Type 0
-ComesTo u s x = Decided u (outcome (state_in u) s) (Keep Unsound) x
+ComesTo u s x = Decided u (outcome (state_in u) s) (Keep UNSOUND) x
 
 -- and a setup packet, which is refused with 1
 abbrev pub SetupComesTo : List ℕ → List ℕ → ℕ → SetupOutcome → Type 0

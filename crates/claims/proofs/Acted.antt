@@ -8,7 +8,7 @@ use mathlib.Core.Logic.{⊎_elim}
 use native.Mathlib.Omega.{arith}
 use lib.ListN.{length, drop}
 use borrow.Author.Tests.{eq-eqb, ne_eqb, lt-ltb, le-ltb}
-use Rattle.rules.specs.Answers.{number_of, refusing}
+use Rattle.rules.specs.Answers.{refusing}
 use Rattle.rules.specs.When.{Not}
 use Rattle.rules.proofs.Choice.{pick_all, decide_all, at_true, at_false}
 use Rattle.wire.specs.When.{at, four_at}
@@ -32,7 +32,7 @@ use Rattle.port.specs.Reply.{due_after}
 use Rattle.port.specs.declared.types.Plan.{Plan}
 use Rattle.port.specs.declared.types.State.{State}
 use Rattle.port.specs.declared.types.Outcome.{Outcome}
-use Rattle.port.specs.declared.types.Outcome.TheVariants.{Nothing, Keep, Halt, Data, Accept}
+use Rattle.port.specs.declared.types.Outcome.TheVariants.{Keep, Halt, Data, Accept}
 use Rattle.port.proofs.Calls.{power_on_sound, power_on_stored, step_sound, leaves_table, keeps_sound, keeps_stored}
 use Rattle.port.proofs.When.{rule_for_every}
 use Rattle.claims.specs.Command.{header, IsTrigger}
@@ -127,14 +127,15 @@ module _ (u : Device) (sound : is_sound u ≡ true) where
 
     packet_acts : (x : Outcome) → Facts st p x → given u (out_packet p) (planned st x).verdict.number → Acts (out_of st).transfer.left (out_packet p) (with_message u p (planned st x)).answer
     unfolding planned acceptance
-    packet_acts Nothing f g = quiet_packet _ refl (λ t z. let l = ap length t.1.bytes in let m = f.0 in omega arith) (λ _. (refl, refl))
-    packet_acts (Keep k) f g = quiet_packet _ refl (λ t z. let e = accepts_0 p (number_of k) 0 nothing z f refl in omega arith) (λ _. (refl, refl))
-    packet_acts (Halt k) f g = quiet_packet _ refl (λ t z. let e = accepts_0 p (number_of k) 2 broken_off z f refl in omega arith) (λ _. (refl, refl))
+    packet_acts (Keep n) f g =
+        quiet_packet _ refl (λ t z. ⊎_elim (λ k. let l = ap length t.1.bytes in let m = k.1 in omega arith) (λ k. let e = accepts_0 p n 0 nothing z k refl in omega arith) f)
+        (λ _. (refl, refl))
+    packet_acts (Halt n) f g = quiet_packet _ refl (λ t z. let e = accepts_0 p n 2 broken_off z f refl in omega arith) (λ _. (refl, refl))
     packet_acts (Data count) f g = quiet_packet _ refl (λ t z. f.0 t.0) (λ n. absurd (n refl))
     packet_acts (Accept (Message tag size end) count) f g =
         quiet_packet _ refl (λ t z. let m = (header_law.meaning p (Message tag size end) f.3).0 in let k = first_byte p t.1 in omega arith) (λ n. absurd (n refl))
-    packet_acts (Accept (Request tag size term) count) f g =
-        quiet_packet _ refl (λ t z. let m = (header_law.meaning p (Request tag size term) f.3).0 in let k = first_byte p t.1 in omega arith) (λ n. absurd (n refl))
+    packet_acts (Accept (Request tag size enabled term) count) f g =
+        quiet_packet _ refl (λ t z. let m = (header_law.meaning p (Request tag size enabled term) f.3).0 in let k = first_byte p t.1 in omega arith) (λ n. absurd (n refl))
     packet_acts (Accept (Trigger tag) count) f g =
         let m = header_law.meaning p (Trigger tag) f.3 in
         record {

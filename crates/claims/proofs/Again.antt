@@ -44,7 +44,7 @@ use Rattle.port.specs.declared.types.State.{State}
 use Rattle.port.specs.Answer.{SetupOutcome}
 use Rattle.std.specs.Prelude.{Err}
 use Rattle.port.specs.declared.types.Outcome.{Outcome}
-use Rattle.port.specs.declared.types.Outcome.TheVariants.{Nothing, Keep, Halt, Data, Accept}
+use Rattle.port.specs.declared.types.Outcome.TheVariants.{Keep, Halt, Data, Accept}
 use Rattle.port.proofs.KeepsOut.{cases}
 use Rattle.port.proofs.Opened.{computed}
 use Rattle.port.proofs.Soundness.{sound_of}
@@ -133,12 +133,11 @@ module _ (u : Device) (free : keeps_halt u.state.split ≡ false) where
 
   planned_free : (x : Outcome) → Free (planned st x).state
   unfolding planned acceptance
-  planned_free Nothing = free
   planned_free (Keep n) = free
   planned_free (Halt n) = free
   planned_free (Data count) = free
   planned_free (Accept (Message tag size end) count) = free
-  planned_free (Accept (Request tag size term) count) = free
+  planned_free (Accept (Request tag size enabled term) count) = free
   planned_free (Accept (Trigger tag) count) = free
 
   quiet_free : (q : Quiet) → Free (quietly u q).unit.state

@@ -50,7 +50,7 @@ use Rattle.std.specs.Prelude.{Err}
 use Rattle.port.specs.declared.types.State.{State}
 use Rattle.port.specs.declared.types.Plan.{Plan}
 use Rattle.port.specs.declared.types.Outcome.{Outcome}
-use Rattle.port.specs.declared.types.Outcome.TheVariants.{Nothing, Keep, Halt, Data, Accept}
+use Rattle.port.specs.declared.types.Outcome.TheVariants.{Keep, Halt, Data, Accept}
 use Rattle.port.proofs.Soundness.{Sound, sound_of}
 use Rattle.port.proofs.KeepsIn.{clears}
 use Rattle.port.proofs.Calls.{row_done, step_sound, keeps_sound, keeps_stored}
@@ -187,12 +187,11 @@ module _ (u : Device) where
 
   request_kept : (s : List ℕ) → Requests s → (out_of st).transfer.left ≡ 0 → (x : Outcome) → Came st s x → (planned st x).verdict.number ≡ 0 → Kept (planned st x).state
   unfolding planned accepted
-  request_kept s q l Nothing c z = refl
   request_kept s q l (Keep n) c z = refl
   request_kept s q l (Halt n) c z = let k = c.0 in absurd (omega arith)
   request_kept s q l (Data count) c z = absurd (c.0 l)
   request_kept s q l (Accept (Message tag size end) count) c z = let k = c.2.0 in absurd (omega arith)
-  request_kept s q l (Accept (Request tag size term) count) c z = refl
+  request_kept s q l (Accept (Request tag size enabled term) count) c z = refl
   request_kept s q l (Accept (Trigger tag) count) c z = let k = c.2.0 in absurd (omega arith)
 
 -- ** what is due

@@ -4,6 +4,7 @@ use Prim.Native.Nat.{ℕ, ◌-◌, min}
 use mathlib.Core.Path.{◌≡◌, refl, ◌∙◌}
 use mathlib.Core.Bool.{true, false}
 use mathlib.Core.List.{List}
+use mathlib.Core.Logic.{◌⊎◌, inl, inr}
 use lib.ListN.{length}
 use borrow.Author.Tests.{eqb-true, eqb-false}
 use Rattle.rules.specs.Answers.{number_of}
@@ -16,10 +17,10 @@ use Rattle.wire.specs.Header.{trigger_rules, reading_rules, read_message, read_r
 use Rattle.wire.specs.Header.{Read}
 use Rattle.std.specs.Prelude.{Ok, Err}
 use Rattle.port.specs.Parts.{packet_size, is_open_out, out_of}
-use Rattle.port.specs.Out.{more_rules, more, data_length, header_rules, header_says, out_rules, outcome}
+use Rattle.port.specs.Out.{keep_of, halt_of, more_rules, more, data_length, header_rules, header_says, out_rules, outcome}
 use Rattle.port.specs.declared.types.State.{State}
 use Rattle.port.specs.declared.types.Outcome.{Outcome}
-use Rattle.port.specs.declared.types.Outcome.TheVariants.{Nothing, Keep, Halt, Data, Accept}
+use Rattle.port.specs.declared.types.Outcome.TheVariants.{Keep, Halt, Data, Accept}
 use Rattle.claims.specs.Wire.{nothing, accepted, broken_off, heard_packet}
 
 -- ** what is heard
@@ -56,9 +57,8 @@ header_read s =
     (λ _. decide_all (Reads s) Err (trigger_rules s) _ (ten, tt) (λ _. tt))))
 
 abbrev pub Facts : State → List ℕ → Outcome → Type 0
-Facts st s Nothing = (length s ≡ 0) × ((out_of st).transfer.left ≡ 0)
-Facts st s (Keep k) = heard_packet s (number_of k) ≡ nothing
-Facts st s (Halt k) = heard_packet s (number_of k) ≡ broken_off
+Facts st s (Keep n) = ((n ≡ 0) × (length s ≡ 0) × ((out_of st).transfer.left ≡ 0)) ⊎ (heard_packet s n ≡ nothing)
+Facts st s (Halt n) = heard_packet s n ≡ broken_off
 Facts st s (Data count) = ((out_of st).transfer.left ≡ 0 → ⊥) × (count ≡ min (out_of st).transfer.left (length s))
 Facts st s (Accept h count) = ((out_of st).transfer.left ≡ 0) × (length s ≡ 0 → ⊥) × (count ≡ min (data_length h) (length s - HEADER)) × (read_header s ≡ Ok h)
 
@@ -66,7 +66,7 @@ module _ (st : State) (s : List ℕ) where
   more_facts : ((out_of st).transfer.left ≡ 0 → ⊥) → Facts st s (more (packet_size st) (out_of st).transfer.left s)
   unfolding more
   more_facts e =
-      decide_all (Facts st s) Halt (more_rules (packet_size st) (out_of st).transfer.left s) _
+      decide_all (Facts st s) halt_of (more_rules (packet_size st) (out_of st).transfer.left s) _
       (halting s NOT_IN_FOURS refl refl refl, (halting s WRONG_LENGTH refl refl refl, tt))
       (λ _. (e, refl))
 
@@ -74,7 +74,7 @@ module _ (st : State) (s : List ℕ) where
   unfolding header_says
   header_facts e some (Err n) is k = k
   header_facts e some (Ok h) is k =
-      decide_all (Facts st s) Halt (header_rules st s h) _ (
+      decide_all (Facts st s) halt_of (header_rules st s h) _ (
         halting s OUT_OF_TURN refl refl refl,
         (halting s TOO_LONG refl refl refl, (halting s WRONG_LENGTH refl refl refl, tt)),
       )
@@ -83,7 +83,7 @@ module _ (st : State) (s : List ℕ) where
   pub outcome_facts : Facts st s (outcome st s)
   unfolding outcome
   outcome_facts =
-      decide_all (Facts st s) Keep (out_rules st (length s)) _
-      (keeping s UNCONFIGURED refl refl, (keeping s WRONG_SIZE refl refl, (keeping s HALTED refl refl, (keeping s WAIT refl refl, tt))))
+      decide_all (Facts st s) keep_of (out_rules st (length s)) _
+      (inr (keeping s UNCONFIGURED refl refl), (inr (keeping s WRONG_SIZE refl refl), (inr (keeping s HALTED refl refl), (inr (keeping s WAIT refl refl), tt))))
       (λ _. pick_all (Facts st s) (is_open_out (out_of st)) _ _ (λ e. more_facts (neb_ne _ _ e))
-      (λ e. pick_all (Facts st s) (length s =ᵇ 0) _ _ (λ f. (eqb-true _ _ f, neb_eq _ _ e)) (λ f. header_facts (neb_eq _ _ e) (eqb-false _ _ f) (read_header s) refl (header_read s))))
+      (λ e. pick_all (Facts st s) (length s =ᵇ 0) _ _ (λ f. inl (refl, eqb-true _ _ f, neb_eq _ _ e)) (λ f. header_facts (neb_eq _ _ e) (eqb-false _ _ f) (read_header s) refl (header_read s))))

@@ -43,14 +43,14 @@ use Rattle.port.specs.Answer.{SetupOutcome}
 use Rattle.std.specs.Prelude.{Err}
 use Rattle.port.specs.declared.types.State.{State}
 use Rattle.port.specs.declared.types.Outcome.{Outcome}
-use Rattle.port.specs.declared.types.Outcome.TheVariants.{Nothing, Keep, Halt, Data, Accept}
+use Rattle.port.specs.declared.types.Outcome.TheVariants.{Keep, Halt, Data, Accept}
 use Rattle.wire.proofs.When.{header_law}
 use Rattle.port.proofs.Sizes.{Size, size_of}
 use Rattle.port.proofs.Soundness.{OutSound, sound_of}
 use Rattle.port.proofs.When.{rule_for_every}
 use Rattle.port.proofs.KeepsOut.{out_held}
 use Rattle.port.proofs.Calls.{step_sound}
-use Rattle.claims.specs.Wire.{Heard, nothing, accepted, broken_off, wiped_out, handed_over, heard}
+use Rattle.claims.specs.Wire.{Heard, nothing, accepted, broken_off, wiped_out, handed_over, heard_packet, heard}
 use Rattle.claims.proofs.Between.{face, row_kept, quiet_kept}
 use Rattle.claims.proofs.Setups.{in_row, Told, told, heard_done, heard_refused}
 use Rattle.claims.proofs.Packets.{Facts, outcome_facts, passing}
@@ -231,8 +231,8 @@ module _ (u : Device) (stored : Stored u) (sound : is_sound u ≡ true) where
           (λ r. begins opening f.0 (let q = r.0 in let n = k.long in let b = fours.least in omega arith) r.1
           (landed_part o u.message (drop 12 p) count (packet_size st) (is_configured st) long_enough k.room counted r.1))
           k.rest
-      comes_header (Request tag size term) count f =
-          let m = header_law.meaning p (Request tag size term) f.3 in
+      comes_header (Request tag size enabled term) count f =
+          let m = header_law.meaning p (Request tag size enabled term) f.3 in
           other (inl (requests u p g f.0 f.1 octets tag size m.1 m.2 m.0)) f.0
           (ap (λ (n : ℕ). take n u.message) (unheld u p g f.0 f.1 (inl m.0))) (unput (tagged (out_of st) tag))
       comes_header (Trigger tag) count f =
@@ -242,16 +242,19 @@ module _ (u : Device) (stored : Stored u) (sound : is_sound u ≡ true) where
 
     comes : (x : Outcome) → Facts st p x → given u (out_packet p) (planned st x).verdict.number → Goes (out_packet p) (with_message u p (planned st x))
     unfolding heard planned acceptance
-    comes Nothing f g = by_heard _ (accepted p) _ (passing p) (unready g, empty (nil p f.0) f.1 (unput (out_of st)))
+    comes (Keep n) f g =
+        ⊎_elim
+        (λ e. by_heard _ (accepted p) _ (ap (heard_packet p) e.0 ∙ passing p)
+        (let z = subst (given u (out_packet p)) e.0 g in (unready z, empty (nil p e.1) e.2 (unput (out_of st)))))
+        (λ e. by_heard _ nothing _ e (unput (out_of st))) f
       where
         nil : (l : List ℕ) → length l ≡ 0 → l ≡ []
         nil [] e = refl
         nil (b ∷ l) e = absurd (omega arith)
-    comes (Keep k) f g = by_heard _ nothing _ f (unput (out_of st))
-    comes (Halt k) f g = by_heard _ broken_off _ f (subst (Broken w) (sym (unput (broken ON (out_of st)))) (breaks ON))
+    comes (Halt n) f g = by_heard _ broken_off _ f (subst (Broken w) (sym (unput (broken ON (out_of st)))) (breaks ON))
     comes (Data count) f g = by_heard _ (accepted p) _ (passing p) (unready g, comes_data g count f)
     comes (Accept (Message tag size end) count) f g = by_heard _ (accepted p) _ (passing p) (unready g, comes_header g (Message tag size end) count f)
-    comes (Accept (Request tag size term) count) f g = by_heard _ (accepted p) _ (passing p) (unready g, comes_header g (Request tag size term) count f)
+    comes (Accept (Request tag size enabled term) count) f g = by_heard _ (accepted p) _ (passing p) (unready g, comes_header g (Request tag size enabled term) count f)
     comes (Accept (Trigger tag) count) f g = by_heard _ (accepted p) _ (passing p) (unready g, comes_header g (Trigger tag) count f)
 
     out_goes : Goes (out_packet p) (bulk_out u p)

@@ -3,15 +3,25 @@ ghost use Rattle.std.specs.Prelude.{◌≡◌, ℕ, ◌<◌};
 ghost use Rattle.rules.specs.Choice.{gate};
 ghost use Rattle.wire.specs.Header.{aligned, read_header};
 ghost use Rattle.port.specs.Parts.{unfinished};
-ghost use Rattle.port.specs.Out.{wrong_length, more, request_out_of_turn, out_of_turn, data_length, header_rules, header_says, out_rules, outcome};
+ghost use Rattle.port.specs.Out.{halt_of, wrong_length, more, request_out_of_turn, out_of_turn, data_length, header_rules, header_says, out_rules, outcome};
 
 use port::types::{BulkIn, BulkOut, CLOSED, Outcome, STORE, State};
+use rules::DONE;
 use rules::refusal::Refusal;
 use wire::types::Header;
 use wire_code::header::{HEADER, not_in_fours, read_header};
 
 // A store's bytes, as a TransferSize.
 pub const MOST: u32 = STORE as u32;
+
+// A refusal that halts Bulk-OUT.
+fn halt_of(refusal: Refusal) -> Outcome
+    ensures { result ≡ halt_of refusal }
+{
+    Outcome::Halt {
+        number: refusal.number(),
+    }
+}
 
 // As many data bytes, up to a multiple of four.
 fn aligned(n: usize) -> usize
@@ -35,15 +45,11 @@ fn more(p: usize, left: u16, s: &[u8]) -> Outcome
     ensures { result ≡ more p left s.now }
 {
     if not_in_fours(s) {
-        return Outcome::Halt {
-            refusal: Refusal::NotInFours,
-        };
+        return halt_of(Refusal::NotInFours);
     }
     let due = usize::from(left);
     if wrong_length(p, s.len(), aligned(due)) {
-        return Outcome::Halt {
-            refusal: Refusal::WrongLength,
-        };
+        return halt_of(Refusal::WrongLength);
     }
     Outcome::Data {
         count: due.min(s.len()),
@@ -111,12 +117,10 @@ fn header_says(st: State, s: &[u8]) -> Outcome
 {
     let read = read_header(s);
     let Ok(header) = read else {
-        return Outcome::Halt {
-            refusal: read.unwrap_err(),
-        };
+        return halt_of(read.unwrap_err());
     };
     if let Err(refusal) = header_fault(st, s, header) {
-        return Outcome::Halt { refusal };
+        return halt_of(refusal);
     }
     let size = data_length(header) as usize;
     Outcome::Accept {
@@ -152,14 +156,16 @@ pub fn outcome(st: State, s: &[u8]) -> Outcome
     ensures { result ≡ outcome st s.now }
 {
     if let Err(refusal) = out_gate(st, s.len()) {
-        return Outcome::Keep { refusal };
+        return Outcome::Keep {
+            number: refusal.number(),
+        };
     }
     let left = st.small.bulkout.transfer.left;
     if left != 0 {
         return more(usize::from(st.small.port.setting.packet), left, s);
     }
     if s.is_empty() {
-        return Outcome::Nothing;
+        return Outcome::Keep { number: DONE };
     }
     header_says(st, s)
 }

@@ -4,7 +4,6 @@ ghost use Rattle.port.specs.Out.{opened, CanAbsorb, CanAccept, Can, accepted, pl
 
 use crate::sides::{absorbed, opened, requested, tagged};
 use port::types::{Outcome, Plan, State};
-use rules::refusal::Refusal;
 use rules::verdict::{Verdict, only};
 use rules::{DONE, TELLS_TRIGGER};
 use state_parts::given::plain;
@@ -31,11 +30,11 @@ fn message_accepted(st: State, tag: u8, size: u32, end: u8, count: usize) -> Pla
 
 // A REQUEST_DEV_DEP_MSG_IN header.
 #[tactic(auto, unfolding(port::specs::Out::accepted))]
-fn request_accepted(st: State, tag: u8, size: u32, term: Option<u8>, count: usize) -> Plan
-    ensures { result ≡ accepted st (Header.Request tag size term) count }
+fn request_accepted(st: State, tag: u8, size: u32, enabled: u8, term: u8, count: usize) -> Plan
+    ensures { result ≡ accepted st (Header.Request tag size enabled term) count }
 {
     let out = with_out(st, tagged(st.small.bulkout, tag));
-    let bulkin = requested(st.small.bulkin, tag, size, term);
+    let bulkin = requested(st.small.bulkin, tag, size, enabled, term);
     plain(with_in(out, bulkin), only(DONE))
 }
 
@@ -59,17 +58,22 @@ fn accepted(st: State, h: Header, count: usize) -> Plan
 {
     match h {
         Header::Message { tag, size, end } => message_accepted(st, tag, size, end, count),
-        Header::Request { tag, size, term } => request_accepted(st, tag, size, term, count),
+        Header::Request {
+            tag,
+            size,
+            enabled,
+            term,
+        } => request_accepted(st, tag, size, enabled, term, count),
         Header::Trigger { tag } => trigger_accepted(st, tag, count),
     }
 }
 
 #[tactic(auto, unfolding(port::specs::Out::planned))]
-fn halts(st: State, refusal: Refusal) -> Plan
-    ensures { result ≡ planned st (Outcome.Halt refusal) }
+fn halts(st: State, number: u8) -> Plan
+    ensures { result ≡ planned st (Outcome.Halt number) }
 {
     let o = st.small.bulkout;
-    plain(with_out(st, broken(1, o)), Verdict::from(refusal))
+    plain(with_out(st, broken(1, o)), only(number))
 }
 
 #[tactic(auto, unfolding(port::specs::Out::planned))]
@@ -92,9 +96,8 @@ pub fn planned(st: State, x: Outcome) -> Plan
     ensures { result ≡ planned st x }
 {
     match x {
-        Outcome::Nothing => plain(st, only(DONE)),
-        Outcome::Keep { refusal } => plain(st, Verdict::from(refusal)),
-        Outcome::Halt { refusal } => halts(st, refusal),
+        Outcome::Keep { number } => plain(st, only(number)),
+        Outcome::Halt { number } => halts(st, number),
         Outcome::Data { count } => data(st, count),
         Outcome::Accept { header, count } => accepted(st, header, count),
     }

@@ -55,11 +55,11 @@ fn asked(size: u32) -> u16
 }
 
 // A REQUEST opens a transfer.
-pub fn requested(b: BulkIn, tag: u8, size: u32, term: Option<u8>) -> BulkIn
-    ensures { result ≡ requested b tag size term }
+pub fn requested(b: BulkIn, tag: u8, size: u32, enabled: u8, term: u8) -> BulkIn
+    ensures { result ≡ requested b tag size enabled term }
 {
     BulkIn {
-        transfer: asked_in(tag, asked(size), term),
+        transfer: asked_in(tag, asked(size), enabled, term),
         recent: tag,
         ..b
     }

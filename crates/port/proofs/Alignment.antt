@@ -8,7 +8,7 @@ use native.Mathlib.Omega.{arith}
 use lib.ListN.{length, take, drop}
 use lib.Seq.{take-nil, take-take}
 use Rattle.rules.specs.Choice.{◌=ᵇ◌, pick, decide}
-use Rattle.rules.specs.Answers.{UNSOUND}
+use Rattle.rules.specs.Answers.{DONE, UNSOUND}
 use Rattle.rules.proofs.Choice.{at_true, at_false, eq_neb, ne_neb}
 use Rattle.rules.proofs.When.{equals, decided}
 use Rattle.wire.specs.Header.{read_header}
@@ -20,11 +20,11 @@ use Rattle.wire.proofs.Twelve.{read_alike}
 use Rattle.port.specs.Alignment.{EqualButAlignment, AlignmentIgnored}
 use Rattle.port.specs.Calls.{refused, with_message, bulk_out}
 use Rattle.port.specs.Device.{Device, Result, is_sound}
-use Rattle.port.specs.Out.{more, header_says, out_rules, outcome, planned, accepted, out_plan}
+use Rattle.port.specs.Out.{keep_of, more, header_says, out_rules, outcome, planned, accepted, out_plan}
 use Rattle.port.specs.Parts.{is_open_out, packet_size, out_of}
 use Rattle.port.specs.Step.{soundly, step}
 use Rattle.port.specs.declared.types.Outcome.{Outcome}
-use Rattle.port.specs.declared.types.Outcome.TheVariants.{Nothing, Keep, Halt, Data, Accept}
+use Rattle.port.specs.declared.types.Outcome.TheVariants.{Keep, Halt, Data, Accept}
 use Rattle.port.specs.declared.types.State.{State}
 use Rattle.port.proofs.Readers.{Came, came}
 
@@ -62,22 +62,21 @@ module _ (u : Device) (s t : List ℕ) (same : EqualButAlignment u s t) where
   header_alike closed = read_alike s t same.long (shorter 12 (12 + four_at s 4) s t (omega arith) (same.header (λ opened. opened closed)))
 
   -- behind 2 to 5
-  inside : pick (is_open_out (out_of st)) (more (packet_size st) left s) (pick (length s =ᵇ 0) Nothing (header_says st s (read_header s)))
-      ≡ pick (is_open_out (out_of st)) (more (packet_size st) left t) (pick (length t =ᵇ 0) Nothing (header_says st t (read_header t)))
+  inside : pick (is_open_out (out_of st)) (more (packet_size st) left s) (pick (length s =ᵇ 0) (Keep DONE) (header_says st s (read_header s)))
+      ≡ pick (is_open_out (out_of st)) (more (packet_size st) left t) (pick (length t =ᵇ 0) (Keep DONE) (header_says st t (read_header t)))
   inside =
       ⊎_elim
-      (λ closed. at_false _ _ _ (eq_neb left 0 closed) ∙ (λ i. pick (same.long i =ᵇ 0) Nothing (says_alike _ _ (header_alike closed) i)) ∙ sym (at_false _ _ _ (eq_neb left 0 closed)))
+      (λ closed. at_false _ _ _ (eq_neb left 0 closed) ∙ (λ i. pick (same.long i =ᵇ 0) (Keep DONE) (says_alike _ _ (header_alike closed) i)) ∙ sym (at_false _ _ _ (eq_neb left 0 closed)))
       (λ opened. at_true _ _ _ (ne_neb left 0 opened) ∙ more_alike ∙ sym (at_true _ _ _ (ne_neb left 0 opened)))
       (decided _ (equals left 0))
 
   outcome_alike : outcome st s ≡ outcome st t
   unfolding outcome
-  outcome_alike i = decide Keep (out_rules st (same.long i)) (inside i)
+  outcome_alike i = decide keep_of (out_rules st (same.long i)) (inside i)
 
   -- what is copied is the same
   copied : (x : Outcome) → Came st s x → let plan = planned st x in take plan.count (drop plan.from s) ≡ take plan.count (drop plan.from t)
   unfolding planned accepted
-  copied Nothing c = refl
   copied (Keep n) c = refl
   copied (Halt n) c = refl
   copied (Data count) c = shorter count left s t (omega arith) (same.more c.0)
@@ -87,7 +86,7 @@ module _ (u : Device) (s t : List ℕ) (same : EqualButAlignment u s t) where
     where
       behind : take (12 + count) s ≡ take (12 + count) t → take count (drop 12 s) ≡ take count (drop 12 t)
       behind e = sym (past 12 count _ s refl) ∙ ap (drop 12) e ∙ past 12 count _ t refl
-  copied (Accept (Request tag size term) count) c = refl
+  copied (Accept (Request tag size enabled term) count) c = refl
   copied (Accept (Trigger tag) count) c = refl
 
   out_alike : bulk_out u s ≡ bulk_out u t

@@ -12,11 +12,9 @@ use lib.Dec.{T, eqb}
 use lib.Seq.{paste, paste-zero, length-paste}
 use borrow.Author.Tests.{ne_eqb, eqb-true, eqb-false, ltb-false}
 use Rattle.std.specs.Prelude.{Option, Some, None, IfSome}
-use Rattle.rules.specs.declared.refusal.Refusal.{Refusal}
-use Rattle.rules.specs.Answers.{number_of, refusing}
 use Rattle.rules.specs.Choice.{◌=ᵇ◌, pick, decide}
-use Rattle.rules.specs.Answers.{DONE, UNSOUND, UNCONFIGURED, WRONG_SIZE, HALTED, WAIT}
-use Rattle.rules.specs.Answers.{NO_ROW, NOT_NOW, unchanged, out_halted, leaves, only}
+use Rattle.rules.specs.Answers.{DONE, UNSOUND, UNCONFIGURED, WRONG_SIZE, HALTED, WAIT, NOT_IN_FOURS, SHORT_HEADER, BAD_TAG, UNKNOWN_MSGID, RESERVED}
+use Rattle.rules.specs.Answers.{WRONG_LENGTH, TOO_LONG, OUT_OF_TURN, NO_ROW, NOT_NOW, unchanged, out_halted, leaves, only, refusing}
 use Rattle.rules.proofs.Choice.{pick_all, decide_all, at_true, at_false, no_true, not_no, none_left, none_right, eq_neb, or_left, not_both, decide_lines}
 use Rattle.wire.specs.Bytes.{byte}
 use Rattle.rules.specs.Flags.{OFF}
@@ -54,7 +52,7 @@ use Rattle.port.specs.declared.types.Split.TheVariants.{None, AbortOut, AbortIn,
 use Rattle.port.specs.declared.types.State.{State}
 use Rattle.port.specs.declared.types.Plan.{Plan}
 use Rattle.port.specs.declared.types.Outcome.{Outcome}
-use Rattle.port.specs.declared.types.Outcome.TheVariants.{Nothing, Keep, Halt, Data, Accept}
+use Rattle.port.specs.declared.types.Outcome.TheVariants.{Keep, Halt, Data, Accept}
 use Rattle.port.specs.Answer.{SetupOutcome}
 use Rattle.std.specs.Prelude.{Err}
 use Rattle.port.proofs.Soundness.{Sound, sound_of, sound_to}
@@ -87,13 +85,9 @@ pub unplanned : (u : Device) (s : List ℕ) (n : ℕ) → with_message u s (plai
 unplanned u s n = ap (λ (m : List ℕ). record { unit = record { message = m; reply = u.reply; state = u.state }; answer = numbered n })
     (sym (paste-zero u.message (out_of u.state).message.held s))
 
-pub kept : (u : Device) (s : List ℕ) (r : Refusal) → with_message u s (planned u.state (Keep r)) ≡ refused u (number_of r)
+pub kept : (u : Device) (s : List ℕ) (n : ℕ) → with_message u s (planned u.state (Keep n)) ≡ refused u n
 unfolding planned
-kept u s r = unplanned u s (number_of r)
-
-pub left_as_is : (u : Device) (s : List ℕ) → with_message u s (planned u.state Nothing) ≡ refused u DONE
-unfolding planned
-left_as_is u s = unplanned u s DONE
+kept u s n = unplanned u s n
 
 pub unstored : (u : Device) (bytes : List ℕ) (n : ℕ) → with_reply u bytes (plain u.state (only n)) ≡ refused u n
 unstored u bytes n = ap (λ (m : List ℕ). record { unit = record { message = u.message; reply = m; state = u.state }; answer = numbered n }) (sym (paste-zero u.reply 0 bytes))
@@ -228,9 +222,9 @@ module _ (u : Device) (h : Sound u.state) where
   }
 
   -- a plan that halts does nothing else
-  pub halted : (s : List ℕ) (r : Refusal) → with_message u s (planned u.state (Halt r)) ≡ refused (with_state u (halted_out u.state)) (number_of r)
+  pub halted : (s : List ℕ) (n : ℕ) → with_message u s (planned u.state (Halt n)) ≡ refused (with_state u (halted_out u.state)) n
   unfolding planned
-  halted s r = ap (λ (m : List ℕ). record { unit = record { message = m; reply = u.reply; state = halted_out u.state }; answer = numbered (number_of r) })
+  halted s n = ap (λ (m : List ℕ). record { unit = record { message = m; reply = u.reply; state = halted_out u.state }; answer = numbered n })
       (sym (paste-zero u.message (out_of u.state).message.held s))
 
   module _ (s : List ℕ) where
@@ -240,13 +234,17 @@ module _ (u : Device) (h : Sound u.state) where
     Q : Outcome → Type 0
     Q x = Way u packet (with_message u s (planned u.state x))
 
-    stays_way : (r : Refusal) → let n = number_of r in T (elem n (bulk faults)) → leaves n ≡ unchanged → (n ≡ UNSOUND → ⊥) → Q (Keep r)
-    unfolding Q own
-    stays_way r o l e = let n = number_of r in subst (Way u packet) (sym (kept u s r)) (keeps u packet n (one n (bulk faults) o) l e)
+    keep_way : (n : ℕ) → Way u packet (refused u n) → Q (Keep n)
+    unfolding Q
+    keep_way n w = subst (Way u packet) (sym (kept u s n)) w
 
-    halt_way : (r : Refusal) → let n = number_of r in T (elem n (bulk faults)) → leaves n ≡ out_halted → (n ≡ UNSOUND → ⊥) → Q (Halt r)
+    stays_way : (n : ℕ) → T (elem n (bulk faults)) → leaves n ≡ unchanged → (n ≡ UNSOUND → ⊥) → Q (Keep n)
+    unfolding own
+    stays_way n o l e = keep_way n (keeps u packet n (one n (bulk faults) o) l e)
+
+    halt_way : (n : ℕ) → T (elem n (bulk faults)) → leaves n ≡ out_halted → (n ≡ UNSOUND → ⊥) → Q (Halt n)
     unfolding Q own
-    halt_way r o l e = let n = number_of r in subst (Way u packet) (sym (halted s r)) (halts n (one n (bulk faults) o) l e h)
+    halt_way n o l e = subst (Way u packet) (sym (halted s n)) (halts n (one n (bulk faults) o) l e h)
 
     data_way : Continues u.state s → Q (Data (min (out_of u.state).transfer.left (length s)))
     unfolding Q planned
@@ -260,38 +258,38 @@ module _ (u : Device) (h : Sound u.state) where
         let room : (out_of u.state).message.held + size ≤ STORE = ltb-false _ _ c.none.1.0 in
         let long = c.reads.0 in
         does _ refl (accept_sound u.state s h (Message tag size end) c) (put_stored s HEADER (min size (length s - HEADER)) _ (λ _. omega arith) (omega arith))
-    head_way (Request tag size term) c = does _ refl (accept_sound u.state s h (Request tag size term) c) (put_stored s 0 0 _ (λ e. absurd (e refl)) (omega arith))
+    head_way (Request tag size enabled term) c = does _ refl (accept_sound u.state s h (Request tag size enabled term) c) (put_stored s 0 0 _ (λ e. absurd (e refl)) (omega arith))
     head_way (Trigger tag) c = does _ refl (accept_sound u.state s h (Trigger tag) c) (put_stored s 0 0 _ (λ e. absurd (e refl)) (omega arith))
 
     out_way : Way u packet (bulk_out u s)
     unfolding bulk_out out_plan Q own leaves
     out_way = outcome_ways u.state s Q (record {
       keeps = (
-        λ _. stays_way Refusal.Unconfigured tt refl (λ e. omega arith),
+        λ _. stays_way UNCONFIGURED tt refl (λ e. omega arith),
         (
-          λ _. stays_way Refusal.WrongSize tt refl (λ e. omega arith),
+          λ _. stays_way WRONG_SIZE tt refl (λ e. omega arith),
           (
-            λ _. stays_way Refusal.Halted tt refl (λ e. omega arith),
-            (λ _. stays_way Refusal.Wait tt refl (λ e. omega arith), tt),
+            λ _. stays_way HALTED tt refl (λ e. omega arith),
+            (λ _. stays_way WAIT tt refl (λ e. omega arith), tt),
           ),
         ),
       );
-      empty = λ _. subst (Way u packet) (sym (left_as_is u s)) (does _ refl h (λ stored. stored));
+      empty = λ _. keep_way DONE (does _ refl h (λ stored. stored));
       halts = λ _. (
-        halt_way Refusal.NotInFours tt refl (λ e. omega arith),
+        halt_way NOT_IN_FOURS tt refl (λ e. omega arith),
         (
-          halt_way Refusal.ShortHeader tt refl (λ e. omega arith),
+          halt_way SHORT_HEADER tt refl (λ e. omega arith),
           (
-            halt_way Refusal.BadTag tt refl (λ e. omega arith),
+            halt_way BAD_TAG tt refl (λ e. omega arith),
             (
-              halt_way Refusal.UnknownMsgId tt refl (λ e. omega arith),
+              halt_way UNKNOWN_MSGID tt refl (λ e. omega arith),
               (
-                halt_way Refusal.Reserved tt refl (λ e. omega arith),
+                halt_way RESERVED tt refl (λ e. omega arith),
                 (
-                  halt_way Refusal.OutOfTurn tt refl (λ e. omega arith),
+                  halt_way OUT_OF_TURN tt refl (λ e. omega arith),
                   (
-                    halt_way Refusal.TooLong tt refl (λ e. omega arith),
-                    (halt_way Refusal.WrongLength tt refl (λ e. omega arith), tt),
+                    halt_way TOO_LONG tt refl (λ e. omega arith),
+                    (halt_way WRONG_LENGTH tt refl (λ e. omega arith), tt),
                   ),
                 ),
               ),

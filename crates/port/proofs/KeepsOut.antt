@@ -8,7 +8,6 @@ use mathlib.Core.Logic.{◌⊎◌, inl, inr, ⊎_elim}
 use native.Mathlib.Omega.{arith}
 use lib.ListN.{length}
 use borrow.Author.Tests.{eqb-true, eqb-false, ltb-true, ltb-false, lt-ltb}
-use Rattle.std.specs.Prelude.{Option, Some, None}
 use Rattle.rules.specs.Choice.{◌=ᵇ◌, ◌≠ᵇ◌, ◌<ᵇ◌, no}
 use Rattle.rules.proofs.Choice.{pick_all, none_right, not_both}
 use Rattle.rules.specs.Flags.{ON}
@@ -16,7 +15,7 @@ use Rattle.wire.specs.Header.{HEADER, aligned}
 use Rattle.wire.specs.declared.types.Header.{Header}
 use Rattle.wire.specs.declared.types.Header.TheVariants.{Message, Request, Trigger}
 use Rattle.port.specs.Parts.{STORE, is_size, OWED, on, keeps_halt, out_of}
-use Rattle.port.specs.Parts.{in_of, packet_size, enabled_by, char_by, closed_out, with_out, fresh, broken, halted_out}
+use Rattle.port.specs.Parts.{in_of, packet_size, closed_out, with_out, fresh, broken, halted_out}
 use Rattle.port.specs.Out.{wrong_length, data_length, absorbed, opened, tagged, accepted, planned}
 use Rattle.port.specs.declared.types.Setting.{Setting}
 use Rattle.port.specs.declared.types.OutMessage.{OutMessage}
@@ -119,15 +118,6 @@ absorbed_sound o count running end tag room within fits some =
     let less = eqb-false o.transfer.left count e in
     inl (λ z. less (omega arith), record { running = running; unready = refl; end = end; tag = tag; some = some; within = omega arith; room = omega arith }))
 
--- TermChar as a transfer keeps it
-flag_enabled : (x : Option ℕ) → enabled_by x ≤ 1
-flag_enabled None = omega arith
-flag_enabled (Some char) = omega arith
-
-off_char : (x : Option ℕ) → enabled_by x ≡ 0 → char_by x ≡ 0
-off_char None e = refl
-off_char (Some char) e = absurd (omega arith)
-
 module _ (st : State) (s : List ℕ) where
   running : Passed st (length s) → (out_of st).halted ≡ 1 → ⊥
   running p e = eqb-false _ _ p.running e
@@ -185,7 +175,7 @@ module _ (st : State) (s : List ℕ) where
     where
       flag : (n : ℕ) → n ≤ 1 → (n ≡ 1) ⊎ (n ≡ 0)
       flag n e = ⊎_elim (λ t. inl (eqb-true n 1 t)) (λ t. let z = eqb-false n 1 t in inr (omega arith)) (cases (n =ᵇ 1))
-  accept_sound h (Request tag size term) c =
+  accept_sound h (Request tag size enabled term) c =
       let law = c.reads.2 in
       record {
         port = h.port;
@@ -193,7 +183,7 @@ module _ (st : State) (s : List ℕ) where
         inward = record {
           halted = h.inward.halted;
           reply = h.inward.reply;
-          phase = is_asked refl (record { tag = law.0; some = λ e. law.1 (omega arith); most = omega arith; enabled = flag_enabled term; term = off_char term; left = refl; sent = refl });
+          phase = is_asked refl (record { tag = law.0; some = λ e. law.1 (omega arith); most = omega arith; enabled = law.2; term = law.3; left = refl; sent = refl });
         };
         interrupt = h.interrupt;
         split = running_split st.split _ _ _ _ h.split (running c.passed) (λ e. absurd (omega arith));

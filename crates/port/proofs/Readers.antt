@@ -17,7 +17,7 @@ use Rattle.wire.specs.Header.{HEADER, read_header}
 use Rattle.wire.specs.When.{at, two_at, four_at, Commands, Requests, Column, rows, Fits, Matches, Means}
 use Rattle.wire.specs.declared.types.Header.TheVariants.{Request}
 use Rattle.wire.specs.Header.{Read}
-use Rattle.std.specs.Prelude.{Option, Ok, Err}
+use Rattle.std.specs.Prelude.{Ok, Err}
 use Rattle.wire.specs.declared.types.Endpoint.TheVariants.{Out, In, Interrupt}
 use Rattle.wire.specs.declared.types.Row.{Row}
 use Rattle.wire.specs.declared.types.Row.TheVariants.{InitiateAbortBulkOut, CheckAbortBulkOutStatus, InitiateAbortBulkIn, CheckAbortBulkInStatus}
@@ -27,15 +27,15 @@ use Rattle.wire.specs.declared.types.Setup.{Setup}
 use Rattle.wire.specs.declared.types.Setup.TheVariants.{Configure, Asks}
 use Rattle.wire.proofs.Lawful.{header_ways}
 use Rattle.wire.proofs.When.{header_law}
-use Rattle.port.specs.Parts.{STORE, on, is_open_out, out_of, in_of, packet_size, enabled_by, char_by, asked_in}
+use Rattle.port.specs.Parts.{STORE, on, is_open_out, out_of, in_of, packet_size, asked_in}
 use Rattle.port.specs.Answer.{Answer}
-use Rattle.port.specs.Out.{more_rules, more, out_of_turn, data_length, header_rules, header_says, out_rules, outcome, absorbed}
+use Rattle.port.specs.Out.{keep_of, halt_of, more_rules, more, out_of_turn, data_length, header_rules, header_says, out_rules, outcome, absorbed}
 use Rattle.port.specs.Reply.{asked, Reader, unread, due_after, asked_by, requests_now, after_packet}
 use Rattle.port.specs.Reply.{by_bytes, aborted, cleared, closed_by, broken as cut_off, after_setup}
 use Rattle.port.specs.declared.types.BulkOut.{BulkOut}
 use Rattle.port.specs.declared.types.State.{State}
 use Rattle.port.specs.declared.types.Outcome.{Outcome}
-use Rattle.port.specs.declared.types.Outcome.TheVariants.{Nothing, Keep, Halt, Data, Accept}
+use Rattle.port.specs.declared.types.Outcome.TheVariants.{Keep, Halt, Data, Accept}
 use Rattle.port.proofs.Sending.{Asks as AsksFor}
 
 -- ** a setup packet, read by its bytes, is the row that they match
@@ -149,13 +149,13 @@ module _ (r : Reader) (s : List ℕ) where
   packet_done = at_true _ _ _ refl
 
 -- a REQUEST asks for what its bytes say
-pub asks_same : (s : List ℕ) (tag size : ℕ) (term : Option ℕ) → Means s (Request tag size term) → AsksFor (asked_in tag (min size STORE) term) (asked_by s)
-asks_same s tag size term m =
+pub asks_same : (s : List ℕ) (tag size enabled term : ℕ) → Means s (Request tag size enabled term) → AsksFor (asked_in tag (min size STORE) enabled term) (asked_by s)
+asks_same s tag size enabled term m =
     ⊎_elim
     (λ k.
     let plain : (at s 8 =ᵇ 2) ≡ false = ne_eqb (at s 8) 2 (λ e. let z = k.0 in omega arith) in
-    record { phase = refl; tag = m.1; most = size_same; stops = ap (λ (x : Option ℕ). on (enabled_by x)) k.1 ∙ sym plain; char = λ e. absurd (true≢false (sym e ∙ plain)) })
-    (λ k. record { phase = refl; tag = m.1; most = size_same; stops = ap (λ (x : Option ℕ). on (enabled_by x)) k.1 ∙ sym (eq-eqb (at s 8) 2 k.0); char = λ _. ap char_by k.1 })
+    record { phase = refl; tag = m.1; most = size_same; stops = ap on k.1 ∙ sym plain; char = λ e. absurd (true≢false (sym e ∙ plain)) })
+    (λ k. record { phase = refl; tag = m.1; most = size_same; stops = ap on k.1 ∙ sym (eq-eqb (at s 8) 2 k.0); char = λ _. k.2 })
     m.3
   where
     size_same : min size STORE ≡ min (four_at s 4) STORE
@@ -173,9 +173,8 @@ header_range s = header_ways s InRange (omega arith, omega arith) (λ _ _. tt) (
 
 module _ (st : State) (s : List ℕ) where
   abbrev pub Came : Outcome → Type 0
-  Came Nothing = (length s ≡ 0) × ((out_of st).transfer.left ≡ 0)
-  Came (Keep k) = (0 < number_of k) × (number_of k ≤ 5)
-  Came (Halt k) = (5 < number_of k) × (number_of k < 14)
+  Came (Keep n) = ((n ≡ 0) × (length s ≡ 0) × ((out_of st).transfer.left ≡ 0)) ⊎ ((0 < n) × (n ≤ 5))
+  Came (Halt n) = (5 < n) × (n < 14)
   Came (Data count) = Not ((out_of st).transfer.left ≡ 0) × (count ≡ min (out_of st).transfer.left (length s))
   Came (Accept x count) = ((out_of st).transfer.left ≡ 0) × (count ≡ min (data_length x) (length s - HEADER)) × Means s x × (out_of_turn (out_of st) (in_of st) x ≡ false)
 
@@ -183,15 +182,15 @@ module _ (st : State) (s : List ℕ) where
   unfolding header_says
   header_came e (Err n) f k = k
   header_came e (Ok x) f k =
-      decide_all Came Halt (header_rules st s x) _ ((omega arith, omega arith), ((omega arith, omega arith), ((omega arith, omega arith), tt)))
+      decide_all Came halt_of (header_rules st s x) _ ((omega arith, omega arith), ((omega arith, omega arith), ((omega arith, omega arith), tt)))
       (λ n. (e, refl, header_law.meaning s x f, n.0))
 
   pub came : Came (outcome st s)
   unfolding outcome more
   came =
-      decide_all Came Keep (out_rules st (length s)) _
-      ((omega arith, omega arith), ((omega arith, omega arith), ((omega arith, omega arith), ((omega arith, omega arith), tt))))
+      decide_all Came keep_of (out_rules st (length s)) _
+      (inr (omega arith, omega arith), (inr (omega arith, omega arith), (inr (omega arith, omega arith), (inr (omega arith, omega arith), tt))))
       (λ _. pick_all Came (is_open_out (out_of st)) _ _
-      (λ e. decide_all Came Halt (more_rules (packet_size st) (out_of st).transfer.left s) _ ((omega arith, omega arith), ((omega arith, omega arith), tt))
+      (λ e. decide_all Came halt_of (more_rules (packet_size st) (out_of st).transfer.left s) _ ((omega arith, omega arith), ((omega arith, omega arith), tt))
       (λ _. (neb_ne _ _ e, refl)))
-      (λ e. pick_all Came (length s =ᵇ 0) _ _ (λ f. (eqb-true _ _ f, neb_eq _ _ e)) (λ _. header_came (neb_eq _ _ e) (read_header s) refl (header_range s))))
+      (λ e. pick_all Came (length s =ᵇ 0) _ _ (λ f. inl (refl, eqb-true _ _ f, neb_eq _ _ e)) (λ _. header_came (neb_eq _ _ e) (read_header s) refl (header_range s))))

@@ -10,7 +10,7 @@ use lib.ListN.{length, take, drop, length-take, length-drop, get_or-eq_default}
 use lib.Seq.{paste, take_at, take-length}
 use borrow.Author.Tests.{eq-eqb, ne_eqb, eqb-true, eqb-false}
 use Rattle.std.specs.Prelude.{Option, Some, None}
-use Rattle.rules.specs.Answers.{number_of, refusing}
+use Rattle.rules.specs.Answers.{refusing}
 use Rattle.rules.specs.Choice.{◌=ᵇ◌, ◌<ᵇ◌, no, pick}
 use Rattle.rules.specs.Answers.{DONE, UNCONFIGURED, WRONG_SIZE, HALTED, WAIT, NO_ROW, NOT_NOW, only}
 use Rattle.rules.specs.When.{Not}
@@ -61,7 +61,7 @@ use Rattle.std.specs.Prelude.{Err}
 use Rattle.port.specs.declared.types.State.{State}
 use Rattle.port.specs.declared.types.Plan.{Plan}
 use Rattle.port.specs.declared.types.Outcome.{Outcome}
-use Rattle.port.specs.declared.types.Outcome.TheVariants.{Nothing, Keep, Halt, Data, Accept}
+use Rattle.port.specs.declared.types.Outcome.TheVariants.{Keep, Halt, Data, Accept}
 use Rattle.port.proofs.Soundness.{Phase, is_closed, is_asked, is_sending, is_owed_lem, Sound, sound_of}
 use Rattle.port.proofs.Sizes.{size_of}
 use Rattle.port.proofs.Calls.{power_on_sound, power_on_stored, unstored, row_done, step_sound, keeps_sound, keeps_stored}
@@ -426,10 +426,10 @@ module _ (u : Device) (r : Reader) (stored : Stored u) (h : Sound u.state) (agre
 
     packet_goes : (x : Outcome) → Came st s x → Goes (out_packet s) (with_message u s (planned st x))
     unfolding planned accepted broken
-    packet_goes Nothing c =
-        let none : at s 0 ≡ 0 = get_or-eq_default s 0 (let l = c.0 in omega arith) in plain_goes refl refl c.1 (λ e. omega arith) (λ e. omega arith)
-    packet_goes (Keep k) c = record { expects = λ e. absurd (let l = c.0 in omega arith); agrees = subst (Agreed P (seen u)) (sym (packet_kept r s (number_of k) c.0 c.1)) agreed }
-    packet_goes (Halt k) c = record { expects = λ e. absurd (let l = c.0 in omega arith); agrees = subst (Agreed P _) (sym (packet_halted r s (number_of k) c.0 c.1)) breaks }
+    packet_goes (Keep n) (inl c) =
+        let none : at s 0 ≡ 0 = get_or-eq_default s 0 (let l = c.1 in omega arith) in plain_goes c.0 refl c.2 (λ e. omega arith) (λ e. omega arith)
+    packet_goes (Keep n) (inr c) = record { expects = λ e. absurd (let l = c.0 in omega arith); agrees = subst (Agreed P (seen u)) (sym (packet_kept r s n c.0 c.1)) agreed }
+    packet_goes (Halt n) c = record { expects = λ e. absurd (let l = c.0 in omega arith); agrees = subst (Agreed P _) (sym (packet_halted r s n c.0 c.1)) breaks }
     packet_goes (Data count) c =
         let d = agreed.due in
         let n = c.0 in
@@ -442,7 +442,7 @@ module _ (u : Device) (r : Reader) (stored : Stored u) (h : Sound u.state) (agre
         let k = c.1 in
         accepts (size - count) refl (ap leaving (absorbed_left (opened (out_of st) tag size end) count))
         (due_command r.due s (agreed.due ∙ c.0) is ∙ omega arith) (no_request r.due s (inr (λ q. omega arith)))
-    packet_goes (Accept (Request tag size term) count) c =
+    packet_goes (Accept (Request tag size enabled term) count) c =
         let m = c.2 in
         let is = m.0 in
         let between : r.due ≡ 0 = agreed.due ∙ c.0 in
@@ -453,7 +453,7 @@ module _ (u : Device) (r : Reader) (stored : Stored u) (h : Sound u.state) (agre
             size = refl;
             due = due_other r.due s between (λ e. omega arith) ∙ sym c.0;
             unsent = whole (λ e. omega arith);
-            line = subst (Line P _ U) (sym (at_true _ _ _ (is_request r.due s between is))) (asks_same s tag size term m);
+            line = subst (Line P _ U) (sym (at_true _ _ _ (is_request r.due s between is))) (asks_same s tag size enabled term m);
           });
         }
     packet_goes (Accept (Trigger tag) count) c = let is = c.2.0 in plain_goes refl refl c.0 (λ e. omega arith) (λ e. omega arith)

@@ -51,7 +51,7 @@ use Rattle.port.specs.declared.types.Split.TheVariants.{None, AbortOut, AbortIn,
 use Rattle.port.specs.declared.types.State.{State}
 use Rattle.port.specs.declared.types.Plan.{Plan}
 use Rattle.port.specs.declared.types.Outcome.{Outcome}
-use Rattle.port.specs.declared.types.Outcome.TheVariants.{Nothing, Keep, Halt, Data, Accept}
+use Rattle.port.specs.declared.types.Outcome.TheVariants.{Keep, Halt, Data, Accept}
 use Rattle.port.specs.Answer.{SetupOutcome}
 use Rattle.std.specs.Prelude.{Err}
 use Rattle.std.specs.Prelude.{Ok}
@@ -181,12 +181,11 @@ module _ (w : Watch) (bytes : List ℕ) where
 -- a plan leaves the endpoint as it was
 planned_stays : (st : State) (x : Outcome) → interrupt_of (planned st x).state ≡ interrupt_of st
 unfolding planned accepted
-planned_stays st Nothing = refl
 planned_stays st (Keep n) = refl
 planned_stays st (Halt n) = refl
 planned_stays st (Data count) = refl
 planned_stays st (Accept (Message tag size end) count) = refl
-planned_stays st (Accept (Request tag size term) count) = refl
+planned_stays st (Accept (Request tag size enabled term) count) = refl
 planned_stays st (Accept (Trigger tag) count) = refl
 
 module _ (u : Device) where

@@ -12,6 +12,7 @@ use borrow.Author.Tests.{eqb-true, eqb-false}
 use Rattle.std.specs.Prelude.{Option, Some, None}
 use Rattle.rules.specs.declared.refusal.Refusal.TheVariants as Refusal
 use Rattle.rules.specs.Choice.{◌=ᵇ◌, ◌<ᵇ◌, no, pick, ◌⇒◌∣◌, decide}
+use Rattle.rules.specs.Answers.{DONE}
 use Rattle.rules.specs.When.{Not, ◌when◌∣◌, else_0}
 use Rattle.rules.proofs.Choice.{pick_all, no_true, no_false, neb_ne, neb_eq}
 use Rattle.rules.proofs.When.{Tells, in_words, equals, differs, is_less, negated, one_of, decided, both_of, By, through, line}
@@ -25,7 +26,7 @@ use Rattle.wire.specs.declared.types.Setup.{Setup}
 use Rattle.wire.specs.declared.types.Setup.TheVariants.{Configure, Asks}
 use Rattle.wire.proofs.When.{header_when, Right, matched, unmatched, setup_read}
 use Rattle.port.specs.Parts.{STORE, is_size, is_open_out, unfinished, has_reply, is_clear, port_of, out_of, in_of, packet_size, is_configured}
-use Rattle.port.specs.Out.{wrong_length, more, header_says, outcome, planned, accepted, out_plan}
+use Rattle.port.specs.Out.{halt_of, wrong_length, more, header_says, outcome, planned, accepted, out_plan}
 use Rattle.port.specs.In.{poll}
 use Rattle.port.specs.Interrupt.{poll_interrupt}
 use Rattle.port.specs.Device.{Device, Result, is_sound, power_on}
@@ -39,7 +40,7 @@ use Rattle.port.specs.When.{Configures, Served, given, given_power, RuleForEvery
 use Rattle.port.specs.declared.types.Split.{Split}
 use Rattle.port.specs.declared.types.Split.TheVariants.{None, AbortOut, AbortIn, Clear}
 use Rattle.port.specs.declared.types.Outcome.{Outcome}
-use Rattle.port.specs.declared.types.Outcome.TheVariants.{Nothing, Halt}
+use Rattle.port.specs.declared.types.Outcome.TheVariants.{Keep}
 use Rattle.port.specs.Answer.{SetupOutcome}
 use Rattle.port.proofs.Soundness.{Sound, sound_of}
 use Rattle.port.proofs.KeepsOut.{out_held, out_ready}
@@ -118,7 +119,7 @@ module _ (u : Device) (s : List ℕ) (h : Sound u.state) where
   -- a REQUEST or a TRIGGER: a packet of exactly 12
   plain_when : {t : Bool} (x : Outcome) → outcome_number x ≡ 0 → Requests s ⊎ Triggers s → Tells t (OutOfTurn u s)
       → By outcome_number (λ _. behind)
-      (decide Halt (t ⇒ Refusal.OutOfTurn ∣ STORE <ᵇ (out_of u.state).message.held + 0 ⇒ Refusal.TooLong ∣ wrong_length (packet_size u.state) (length s) HEADER ⇒ Refusal.WrongLength ∣ []) x)
+      (decide halt_of (t ⇒ Refusal.OutOfTurn ∣ STORE <ᵇ (out_of u.state).message.held + 0 ⇒ Refusal.TooLong ∣ wrong_length (packet_size u.state) (length s) HEADER ⇒ Refusal.WrongLength ∣ []) x)
   unfolding planned
   plain_when x z k turn =
       let other : Not (Commands s) = λ c. apart s c k in
@@ -136,7 +137,7 @@ module _ (u : Device) (s : List ℕ) (h : Sound u.state) where
   good_when : (x : Header) → Means s x → By outcome_number (λ _. behind) (header_says u.state s (Ok x))
   unfolding header_says planned accepted
   good_when (Message tag size end) m = command_when tag size end m
-  good_when (Request tag size term) m =
+  good_when (Request tag size enabled term) m =
       plain_when _ refl (inl m.0)
       (in_words (⊎_elim (λ o. inl (m.0, o)) (λ f. inr (inl m.0, f))) (⊎_elim (λ r. inl r.1) (λ r. inr r.1)) (one_of (differs (in_of u.state).transfer.phase 0) (unfinished_message u h)))
   good_when (Trigger tag) m =
@@ -148,7 +149,7 @@ module _ (u : Device) (s : List ℕ) (h : Sound u.state) where
   head_when some = through (header_says u.state s) (header_when s _ _ (λ n. refl) (λ x m. record { told = (good_when x m).told }) some)
 
   packet_when : By outcome_number (λ _. of_packet u s)
-      (pick (is_open_out (out_of u.state)) (more (packet_size u.state) (out_of u.state).transfer.left s) (pick (length s =ᵇ 0) Nothing (header_says u.state s (read_header s))))
+      (pick (is_open_out (out_of u.state)) (more (packet_size u.state) (out_of u.state).transfer.left s) (pick (length s =ᵇ 0) (Keep DONE) (header_says u.state s (read_header s))))
   unfolding planned
   packet_when =
       pick_all (By outcome_number _) _ _ _ (λ e. record { told = inl (neb_ne _ _ e, more_when.told) })

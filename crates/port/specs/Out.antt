@@ -1,9 +1,9 @@
 -- A Bulk-OUT packet: what it comes to, and then what that leaves. A transfer is its header, its data bytes and their alignment; packets
 -- are the pieces that it comes in. 01, "Bulk-OUT".
 -- Assumes nothing.
-use Rattle.std.specs.Prelude.{ℕ, ◌+◌, ◌-◌, ◌≤◌, min, ◌≡◌, Bool, false, List, [], Option, Ok, Err, length}
+use Rattle.std.specs.Prelude.{ℕ, ◌+◌, ◌-◌, ◌≤◌, min, ◌≡◌, Bool, false, List, [], Ok, Err, length}
 use Rattle.rules.specs.Choice.{◌=ᵇ◌, ◌<ᵇ◌, no, ◌or◌, ◌and◌, pick, ◌⇒◌∣◌, decide}
-use Rattle.rules.specs.Answers.{DONE, TELLS_TRIGGER, refusing, done}
+use Rattle.rules.specs.Answers.{DONE, TELLS_TRIGGER, number_of, only, done}
 use Rattle.rules.specs.declared.refusal.Refusal.{Refusal}
 use Rattle.rules.specs.declared.refusal.Refusal.TheVariants.{Unconfigured, WrongSize, Halted, Wait, NotInFours, WrongLength, TooLong, OutOfTurn}
 use Rattle.rules.specs.declared.verdict.Verdict.{Verdict}
@@ -19,7 +19,15 @@ use Rattle.port.specs.declared.types.BulkIn.{BulkIn}
 use Rattle.port.specs.declared.types.State.{State}
 use Rattle.port.specs.declared.types.Plan.{Plan}
 use Rattle.port.specs.declared.types.Outcome.{Outcome}
-use Rattle.port.specs.declared.types.Outcome.TheVariants.{Nothing, Keep, Halt, Data, Accept}
+use Rattle.port.specs.declared.types.Outcome.TheVariants.{Keep, Halt, Data, Accept}
+
+-- ** a refusal: "all unchanged", or "OUT halted"
+
+abbrev pub keep_of : Refusal → Outcome
+keep_of r = Keep (number_of r)
+
+abbrev pub halt_of : Refusal → Outcome
+halt_of r = Halt (number_of r)
 
 -- ** the length of a transfer
 
@@ -34,7 +42,7 @@ abbrev pub more_rules : ℕ → ℕ → List ℕ → List (Bool × Refusal)
 more_rules p left s = not_in_fours s ⇒ NotInFours ∣ wrong_length p (length s) (aligned left) ⇒ WrongLength ∣ []
 
 unfoldable pub more : ℕ → ℕ → List ℕ → Outcome
-more p left s = decide Halt (more_rules p left s) (Data (min left (length s)))
+more p left s = decide halt_of (more_rules p left s) (Data (min left (length s)))
 
 -- ** a header: "13, 12, 11" once it is read
 
@@ -44,13 +52,13 @@ request_out_of_turn o b = is_open_in b or unfinished o
 
 abbrev pub out_of_turn : BulkOut → BulkIn → Header → Bool
 out_of_turn o b (Message tag size end) = false
-out_of_turn o b (Request tag size term) = request_out_of_turn o b
+out_of_turn o b (Request tag size enabled term) = request_out_of_turn o b
 out_of_turn o b (Trigger tag) = unfinished o
 
 -- the data bytes of a header's transfer
 abbrev pub data_length : Header → ℕ
 data_length (Message tag size end) = size
-data_length (Request tag size term) = 0
+data_length (Request tag size enabled term) = 0
 data_length (Trigger tag) = 0
 
 abbrev pub header_rules : State → List ℕ → Header → List (Bool × Refusal)
@@ -60,8 +68,8 @@ header_rules st s h =
     wrong_length (packet_size st) (length s) (HEADER + aligned (data_length h)) ⇒ WrongLength ∣ []
 
 unfoldable pub header_says : State → List ℕ → Read → Outcome
-header_says st s (Err r) = Halt r
-header_says st s (Ok h) = decide Halt (header_rules st s h) (Accept h (min (data_length h) (length s - HEADER)))
+header_says st s (Err r) = halt_of r
+header_says st s (Ok h) = decide halt_of (header_rules st s h) (Accept h (min (data_length h) (length s - HEADER)))
 
 -- ** what a packet comes to: "Bulk calls: 1, 2, 3, 4, 5", of which 1 is asked before every call (Step)
 
@@ -75,9 +83,9 @@ out_rules st n =
 -- "Between transfers an empty packet is answered 0 and changes nothing"
 unfoldable pub outcome : State → List ℕ → Outcome
 outcome st s =
-    decide Keep (out_rules st (length s))
+    decide keep_of (out_rules st (length s))
     (pick (is_open_out (out_of st)) (more (packet_size st) (out_of st).transfer.left s)
-    (pick (length s =ᵇ 0) Nothing
+    (pick (length s =ᵇ 0) (Keep DONE)
     (header_says st s (read_header s))))
 
 -- ** data bytes that come: `count` of those of the open transfer are here
@@ -102,9 +110,9 @@ abbrev pub opened : BulkOut → ℕ → ℕ → ℕ → BulkOut
 opened o tag size end = holding (tagged o tag) o.message (record { left = size; got = 0; end = end })
 
 -- "An accepted REQUEST opens the transfer." No reply is longer than its store, so that more than this is asked for need not be kept
-abbrev pub requested : BulkIn → ℕ → ℕ → Option ℕ → BulkIn
-requested b tag size term =
-    record { reply = b.reply; transfer = asked_in tag (min size STORE) term; halted = b.halted; recent = tag }
+abbrev pub requested : BulkIn → ℕ → ℕ → ℕ → ℕ → BulkIn
+requested b tag size enabled term =
+    record { reply = b.reply; transfer = asked_in tag (min size STORE) enabled term; halted = b.halted; recent = tag }
 
 -- ** what that leaves
 
@@ -120,15 +128,14 @@ accepted st (Message tag size end) count = record {
   from = HEADER;
   count = count;
 }
-accepted st (Request tag size term) count =
-    plain (with_in (with_out st (tagged (out_of st) tag)) (requested (in_of st) tag size term)) done
+accepted st (Request tag size enabled term) count =
+    plain (with_in (with_out st (tagged (out_of st) tag)) (requested (in_of st) tag size enabled term)) done
 accepted st (Trigger tag) count = plain (with_out st (tagged (out_of st) tag)) (record { number = DONE; tells = TELLS_TRIGGER })
 
--- "answered 0 and changes nothing"; "all unchanged"; "OUT halted"; data; a header
+-- "all unchanged"; "OUT halted"; data; a header
 unfoldable pub planned : State → Outcome → Plan
-planned st Nothing = plain st done
-planned st (Keep r) = plain st (refusing r)
-planned st (Halt r) = plain (halted_out st) (refusing r)
+planned st (Keep number) = plain st (only number)
+planned st (Halt number) = plain (halted_out st) (only number)
 planned st (Data count) = record { state = with_out st (absorbed (out_of st) count); verdict = done; from = 0; count = count }
 planned st (Accept h count) = accepted st h count
 
@@ -143,13 +150,12 @@ CanAbsorb o count =
 
 abbrev pub CanAccept : State → Header → ℕ → Type 0
 CanAccept st (Message tag size end) count = CanAbsorb (opened (out_of st) tag size end) count
-CanAccept st (Request tag size term) count = Unit {0}
+CanAccept st (Request tag size enabled term) count = Unit {0}
 CanAccept st (Trigger tag) count = Unit {0}
 
 abbrev pub Can : State → Outcome → Type 0
-Can st Nothing = Unit {0}
-Can st (Keep r) = Unit {0}
-Can st (Halt r) = Unit {0}
+Can st (Keep number) = Unit {0}
+Can st (Halt number) = Unit {0}
 Can st (Data count) = CanAbsorb (out_of st) count
 Can st (Accept h count) = CanAccept st h count
 

@@ -1,6 +1,6 @@
 -- The parts of a unit: their numbers, the tests on them, what each is when it is empty, and one part set while the others stay. 01, "The unit".
 -- Assumes nothing.
-use Rattle.std.specs.Prelude.{ℕ, Bool, true, false, Option, Some, None}
+use Rattle.std.specs.Prelude.{ℕ, Bool, true, false}
 use Rattle.rules.specs.Choice.{◌=ᵇ◌, ◌≠ᵇ◌, ◌or◌, ◌and◌, pick}
 use Rattle.rules.specs.Flags.{OFF, ON}
 use Rattle.port.specs.declared.types.Setting.{Setting}
@@ -128,17 +128,8 @@ transfer_in phase tag asked enabled term left sent =
 abbrev pub closed_in : InTransfer
 closed_in = transfer_in CLOSED 0 0 OFF 0 0 0
 
--- TermChar as a transfer keeps it: a flag, and the byte where it is enabled
-abbrev pub enabled_by : Option ℕ → ℕ
-enabled_by None = OFF
-enabled_by (Some char) = ON
-
-abbrev pub char_by : Option ℕ → ℕ
-char_by None = 0
-char_by (Some char) = char
-
-abbrev pub asked_in : ℕ → ℕ → Option ℕ → InTransfer
-asked_in tag asked term = transfer_in ASKED tag asked (enabled_by term) (char_by term) 0 0
+abbrev pub asked_in : ℕ → ℕ → ℕ → ℕ → InTransfer
+asked_in tag asked enabled term = transfer_in ASKED tag asked enabled term 0 0
 
 abbrev pub sending_in : ℕ → ℕ → ℕ → InTransfer
 sending_in tag left sent = transfer_in SENDING tag 0 OFF 0 left sent

@@ -155,13 +155,12 @@ pub struct State {
     pub remote: Remote,
 }
 
-// What a Bulk-OUT packet comes to: nothing, where it is empty and between transfers; a refusal with nothing changed; one with Bulk-OUT
-// halted; data bytes of the open transfer; or a header with its first data bytes.
+// What a Bulk-OUT packet comes to: a number with nothing changed, a number with Bulk-OUT halted, data bytes of the open transfer, or a
+// header with its first data bytes. Numbers, and no refusals: `planned` (out_step) is public, and its promise, one of docs/TRACE.md, is for any.
 #[derive(Clone, Copy)]
 pub enum Outcome {
-    Nothing,
-    Keep { refusal: Refusal },
-    Halt { refusal: Refusal },
+    Keep { number: u8 },
+    Halt { number: u8 },
     Data { count: usize },
     Accept { header: Header, count: usize },
 }

@@ -32,7 +32,7 @@ use Rattle.wire.specs.declared.types.Setup.TheVariants.{Configure, Asks}
 use Rattle.port.specs.Parts.{STORE, ASKED, on, is_open_out, is_open_in, is_owed, packet_size, out_of, in_of, with_in, carrying, broken, shut}
 use Rattle.port.specs.Remote.{local_now}
 use Rattle.port.specs.Answer.{Answer, Said, numbered, refuse}
-use Rattle.port.specs.Out.{plain, more, header_says, out_rules, outcome, absorbed, opened, accepted, planned, out_plan}
+use Rattle.port.specs.Out.{keep_of, plain, more, header_says, out_rules, outcome, absorbed, opened, accepted, planned, out_plan}
 use Rattle.port.specs.In.{Packet, fixed, header, started, to_go, gone, send, next_packet, in_rules, sends, poll}
 use Rattle.port.specs.Interrupt.{interrupt_rules, poll_interrupt}
 use Rattle.port.specs.Rows.{Reaction, initiate_abort_out, initiate_abort_in, check_abort_in, clearing, initiate_clear}
@@ -54,7 +54,7 @@ use Rattle.port.specs.declared.types.Split.{Split}
 use Rattle.port.specs.declared.types.Split.TheVariants.{None, AbortOut, AbortIn, Clear}
 use Rattle.port.specs.declared.types.State.{State}
 use Rattle.port.specs.declared.types.Outcome.{Outcome}
-use Rattle.port.specs.declared.types.Outcome.TheVariants.{Nothing, Keep, Halt, Data, Accept}
+use Rattle.port.specs.declared.types.Outcome.TheVariants.{Keep, Halt, Data, Accept}
 use Rattle.port.specs.Answer.{SetupOutcome}
 use Rattle.std.specs.Prelude.{Err}
 use Rattle.std.specs.Prelude.{Ok}
@@ -64,7 +64,7 @@ use Rattle.port.specs.declared.types.Effect.TheVariants.{GoesToLocal, LocksOut, 
 use Rattle.port.proofs.Soundness.{Sound, sound_of, sound_to}
 use Rattle.port.proofs.Ways.{outcome_ways}
 use Rattle.port.proofs.KeepsOut.{out_held}
-use Rattle.port.proofs.Calls.{kept, left_as_is, unstored, halted, step_sound}
+use Rattle.port.proofs.Calls.{kept, unstored, halted, step_sound}
 use Rattle.port.proofs.Alive.{held_alive, unsent_alive, alive_sound, alive_stored, Alike, alike, twin, same_message, same_reply}
 
 -- the same answer, and units that differ in the place of the reply and in dead bytes alone
@@ -188,27 +188,24 @@ module _ (u : Device) (stored : Stored u) (h : Sound u.state) where
   unfolding header_says alive live
   header_agrees s (Err numbered) = refl
   header_agrees s (Ok (Message tag size end)) = refl
-  header_agrees s (Ok (Request tag size term)) = refl
+  header_agrees s (Ok (Request tag size enabled term)) = refl
   header_agrees s (Ok (Trigger tag)) = refl
 
   outcome_agrees : (s : List ℕ) → outcome u.state s ≡ outcome w.state s
   unfolding outcome alive live
   outcome_agrees s =
-      ap (λ (z : Outcome). decide Keep (out_rules u.state (length s))
-      (pick (is_open_out (out_of u.state)) (more (packet_size u.state) (out_of u.state).transfer.left s) (pick (length s =ᵇ 0) Nothing z))) (header_agrees s (read_header s))
+      ap (λ (z : Outcome). decide keep_of (out_rules u.state (length s))
+      (pick (is_open_out (out_of u.state)) (more (packet_size u.state) (out_of u.state).transfer.left s) (pick (length s =ᵇ 0) (Keep DONE) z))) (header_agrees s (read_header s))
 
   abbrev Outs : List ℕ → Outcome → Type 0
   Outs s x = Same (with_message u s (planned u.state x)) (with_message w s (planned w.state x))
 
-  nothing_agrees : (s : List ℕ) → Outs s Nothing
-  nothing_agrees s = along (left_as_is u s) (left_as_is w s) (kept_both _)
+  keep_agrees : (s : List ℕ) (n : ℕ) → Outs s (Keep n)
+  keep_agrees s n = along (kept u s n) (kept w s n) (kept_both _)
 
-  keep_agrees : (s : List ℕ) (k : Refusal) → Outs s (Keep k)
-  keep_agrees s k = along (kept u s k) (kept w s k) (kept_both _)
-
-  halt_agrees : (s : List ℕ) (k : Refusal) → Outs s (Halt k)
+  halt_agrees : (s : List ℕ) (n : ℕ) → Outs s (Halt n)
   unfolding effected
-  halt_agrees s k = along (halted u h s k) (halted w (alive_sound u stored h) s k) (effect_agrees (numbered (number_of k)) (SetsHalt Out))
+  halt_agrees s n = along (halted u h s n) (halted w (alive_sound u stored h) s n) (effect_agrees (numbered n) (SetsHalt Out))
 
   -- data put behind what is held, of the open transfer or of one that a header opens
   put_message : (o : BulkOut) (d : List ℕ) (count : ℕ) → o.message ≡ (out_of u.state).message → count ≤ length d
@@ -238,7 +235,7 @@ module _ (u : Device) (stored : Stored u) (h : Sound u.state) where
   head_agrees : (s : List ℕ) (x : Header) (count : ℕ) → count ≤ length (drop HEADER s) → Outs s (Accept x count)
   unfolding planned accepted alive live
   head_agrees s (Message tag size end) count e = (refl, refl, put_message (opened (out_of u.state) tag size end) (drop HEADER s) count refl e, whole_reply)
-  head_agrees s (Request tag size term) count e = (refl, refl, no_message_lem s, whole_reply)
+  head_agrees s (Request tag size enabled term) count e = (refl, refl, no_message_lem s, whole_reply)
   head_agrees s (Trigger tag) count e = (refl, refl, no_message_lem s, whole_reply)
 
   out_agrees : (s : List ℕ) → Same (bulk_out u s) (bulk_out w s)
@@ -247,7 +244,7 @@ module _ (u : Device) (stored : Stored u) (h : Sound u.state) where
       subst (λ (x : Outcome). Same (bulk_out u s) (with_message w s (planned w.state x))) (outcome_agrees s)
       (outcome_ways u.state s (Outs s) (record {
         keeps = (λ _. keep_agrees s _, (λ _. keep_agrees s _, (λ _. keep_agrees s _, (λ _. keep_agrees s _, tt))));
-        empty = λ _. nothing_agrees s;
+        empty = λ _. keep_agrees s DONE;
         halts = λ _. (halt_agrees s _, (halt_agrees s _, (halt_agrees s _, (halt_agrees s _, (halt_agrees s _, (halt_agrees s _, (halt_agrees s _, (halt_agrees s _, tt))))))));
         continues = λ _. data_agrees s _ (omega arith);
         heads = λ x _. head_agrees s x _ (let l = length-drop HEADER s in omega arith);

@@ -162,15 +162,15 @@ pub fn closed_in() -> InTransfer
     }
 }
 
-pub fn asked_in(tag: u8, asked: u16, term: Option<u8>) -> InTransfer
-    ensures { result ≡ asked_in tag asked term }
+pub fn asked_in(tag: u8, asked: u16, enabled: u8, term: u8) -> InTransfer
+    ensures { result ≡ asked_in tag asked enabled term }
 {
     InTransfer {
         phase: ASKED,
         tag,
         asked,
-        enabled: u8::from(term.is_some()),
-        term: term.unwrap_or(0),
+        enabled,
+        term,
         ..closed_in()
     }
 }

@@ -1,8 +1,9 @@
 -- What a header that is read says of its packet: the facts that the tests passed, for whoever goes on with the header.
 -- Assumes nothing.
 use Prim.Native.Nat.{ℕ, ◌≤◌, ◌%◌}
-use mathlib.Core.Path.{◌≡◌}
+use mathlib.Core.Path.{◌≡◌, refl}
 use mathlib.Core.List.{List}
+use native.Mathlib.Omega.{arith}
 use lib.ListN.{length}
 use borrow.Author.Tests.{ltb-false, eqb-false}
 use Rattle.rules.specs.declared.refusal.Refusal.TheVariants.{NotInFours, ShortHeader, BadTag, UnknownMsgId, Reserved}
@@ -16,7 +17,7 @@ use Rattle.std.specs.Prelude.{Ok, Err}
 
 abbrev pub Lawful : Header → Type 0
 Lawful (Message tag size end) = (tag ≡ 0 → ⊥) × (size ≡ 0 → ⊥) × (end ≤ 1)
-Lawful (Request tag size term) = (tag ≡ 0 → ⊥) × (size ≡ 0 → ⊥)
+Lawful (Request tag size enabled term) = (tag ≡ 0 → ⊥) × (size ≡ 0 → ⊥) × (enabled ≤ 1) × (enabled ≡ 0 → term ≡ 0)
 Lawful (Trigger tag) = tag ≡ 0 → ⊥
 
 -- a faulty header promises nothing; a good one is lawful, in a packet of at least 12 bytes, in fours
@@ -40,8 +41,8 @@ module _ (s : List ℕ) (P : Read → Type 0) (reserved : P (Err Reserved)) (goo
         (λ n.
         let size = eqb-false (TransferSize s) 0 n.1.0 in
         pick_all P _ _ _
-        (λ _. good _ (long, fours, (tag, size)))
-        (λ _. good _ (long, fours, (tag, size))))
+        (λ _. good _ (long, fours, (tag, size, omega arith, λ _. refl)))
+        (λ _. good _ (long, fours, (tag, size, omega arith, λ e. absurd (omega arith)))))
 
     trigger_ways : P (read_trigger s)
     unfolding read_trigger

@@ -84,8 +84,8 @@ module _ (s : List ℕ) (P : Read → ℕ) (later : Read → ℕ → Type 0) (fa
         (λ _. shared _ (in_words (λ n. (λ e. n (inl e), λ e. n (inr e))) (λ n. ⊎_elim n.0 n.1) (negated (one_of (equals (at s 8) 0) (equals (at s 8) D1)))) (faults Refusal.Reserved)
         (λ n. line _ (negated (in_words (λ z. (z.0, z.1.0)) (λ z. (z.0, (z.1, tt))) (some_zeros s 10 2 HEADER refl long))) (faults Refusal.Reserved)
         (λ _. pick_all (By P _) _ _ _
-        (λ e. good _ (c, refl, same_size s, inl (eqb-true _ _ e, refl)))
-        (λ e. good _ (c, refl, same_size s, inr (sure _ (equals (at s 8) 2) (λ d. n (eqb-false _ _ e, d)), refl)))))))
+        (λ e. good _ (c, refl, same_size s, inl (eqb-true _ _ e, refl, refl)))
+        (λ e. good _ (c, refl, same_size s, inr (sure _ (equals (at s 8) 2) (λ d. n (eqb-false _ _ e, d)), refl, refl)))))))
 
     trigger_when : Triggers s → By P (λ r. 10 when BadTrigger s ∣ later r) (read_trigger s)
     unfolding read_trigger

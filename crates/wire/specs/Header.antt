@@ -1,10 +1,11 @@
 -- Bulk headers. On Bulk-OUT: what the twelve bytes say, and the first of 6, 7, 8, 9 and 10 that applies to them. On Bulk-IN: the twelve bytes.
 -- Assumes nothing.
-use Rattle.std.specs.Prelude.{ℕ, ◌+◌, ◌-◌, ◌*◌, ◌/◌, ◌%◌, Bool, List, [], ◌∷◌, ◌++◌, Some, None, Result, Ok, Err, length}
+use Rattle.std.specs.Prelude.{ℕ, ◌+◌, ◌-◌, ◌*◌, ◌/◌, ◌%◌, Bool, List, [], ◌∷◌, ◌++◌, Result, Ok, Err, length}
 use Rattle.rules.specs.Choice.{◌=ᵇ◌, ◌≠ᵇ◌, ◌<ᵇ◌, no, ◌or◌, pick, ◌⇒◌∣◌, decide}
 use Rattle.rules.specs.Answers.{DONE, number_of}
 use Rattle.rules.specs.declared.refusal.Refusal.{Refusal}
 use Rattle.rules.specs.declared.refusal.Refusal.TheVariants.{NotInFours, ShortHeader, BadTag, UnknownMsgId, Reserved}
+use Rattle.rules.specs.Flags.{OFF, ON}
 use Rattle.wire.specs.Bytes.{byte, number4, bytes4, zeros}
 use Rattle.wire.specs.declared.types.Header.{Header}
 use Rattle.wire.specs.declared.types.Header.TheVariants.{Message, Request, Trigger}
@@ -96,8 +97,8 @@ unfoldable pub read_request : List ℕ → Read
 read_request s =
     decide Err (request_rules s)
     (pick (attributes s =ᵇ 0)
-    (Ok (Request (bTag s) (TransferSize s) None))
-    (Ok (Request (bTag s) (TransferSize s) (Some (TermChar s)))))
+    (Ok (Request (bTag s) (TransferSize s) OFF 0))
+    (Ok (Request (bTag s) (TransferSize s) ON (TermChar s))))
 
 -- "eight 0", and the one before them
 abbrev pub trigger_rules : List ℕ → List (Bool × Refusal)

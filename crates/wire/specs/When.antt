@@ -1,7 +1,7 @@
 -- 01, "Given when", for what bytes alone decide: what a header is refused for, and which rows a setup packet can match. Each condition stands by
 -- itself, over bytes at their places; nothing here is the reader's.
 -- Assumes nothing.
-use Rattle.std.specs.Prelude.{ℕ, ◌+◌, ◌-◌, ◌*◌, ◌%◌, ◌≤◌, ◌≡◌, List, [], ◌∷◌, ◌⊎◌, Ok, length, get_or, Option, Some, None, MatchOption}
+use Rattle.std.specs.Prelude.{ℕ, ◌+◌, ◌-◌, ◌*◌, ◌%◌, ◌≤◌, ◌≡◌, List, [], ◌∷◌, ◌⊎◌, Ok, length, get_or, Option, MatchOption}
 use Rattle.rules.specs.When.{Not, ◌when◌∣◌, else_0}
 use Rattle.wire.specs.Header.{Read, header_number}
 use Rattle.wire.specs.declared.types.Endpoint.TheVariants.{Out, In, Interrupt}
@@ -141,9 +141,9 @@ Matches s (r ∷ rs) x = (Fits r.0 s × (x ≡ r.1 (two_at s 2))) ⊎ Matches s 
 -- what a good header says: its kind, its tag, its TransferSize, and what is behind it
 abbrev pub Means : List ℕ → Header → Type 0
 Means s (Message tag size end) = Commands s × (tag ≡ at s 1) × (size ≡ four_at s 4) × (end ≡ at s 8)
-Means s (Request tag size term) =
+Means s (Request tag size enabled term) =
     Requests s × (tag ≡ at s 1) × (size ≡ four_at s 4)
-    × (((at s 8 ≡ 0) × (term ≡ None)) ⊎ ((at s 8 ≡ 2) × (term ≡ Some (at s 9))))
+    × (((at s 8 ≡ 0) × (enabled ≡ 0) × (term ≡ 0)) ⊎ ((at s 8 ≡ 2) × (enabled ≡ 1) × (term ≡ at s 9)))
 Means s (Trigger tag) = Triggers s × (tag ≡ at s 1)
 
 -- "a header then goes 6, 7, 8, 9, 10"

@@ -13,7 +13,8 @@ pub const SETUP: usize = 8;
 
 pub const CONTROL: usize = 24;
 
-// A header that has no fault of its own. `end` is 1 with EOM, else 0, as the unit keeps it; `term` is the TermChar, where it is enabled.
+// A header that has no fault of its own. `end` is 1 with EOM, `enabled` is 1 with TermCharEnabled, else each is 0; without it `term` is 0.
+// Two bytes, and no Option: `planned` (out_step) is public, and its promise, one of docs/TRACE.md, is for any two.
 #[derive(Clone, Copy)]
 pub enum Header {
     Message {
@@ -24,7 +25,8 @@ pub enum Header {
     Request {
         tag: u8,
         size: u32,
-        term: Option<u8>,
+        enabled: u8,
+        term: u8,
     },
     Trigger {
         tag: u8,

@@ -99,12 +99,14 @@ fn read_request(h: &[u8; HEADER]) -> Read
         0 => Ok(Header::Request {
             tag,
             size,
-            term: None,
+            enabled: 0,
+            term: 0,
         }),
         D1 => Ok(Header::Request {
             tag,
             size,
-            term: Some(h[9]),
+            enabled: 1,
+            term: h[9],
         }),
         _ => Err(Refusal::Reserved),
     }

@@ -1,6 +1,5 @@
-use Rattle.c_out.proofs.Ways.{nothing_done, kept_out}
+use Rattle.c_out.proofs.Ways.{kept_out}
 use mathlib.Core.List.{[]}
-use mathlib.Core.Path.{refl}
 use Rattle.c_out.proofs.packet.bulk_out.Goals as goal
 
 pub halts-requires : goal.halts-requires
@@ -12,8 +11,5 @@ data-requires c = rw c.in-Data.is at c.outcome_of.ensures
 pub accepts-requires : goal.accepts-requires
 accepts-requires c = rw c.in-Accept.is at c.outcome_of.ensures
 
-pub returns-in-Nothing : goal.returns-in-Nothing
-returns-in-Nothing c = let a = c.args in nothing_done a.u.now a.s.now _ _ (rw c.in-Nothing.is at c.outcome_of.ensures) refl c.done.ensures
-
 pub returns-in-Keep : goal.returns-in-Keep
-returns-in-Keep c = let a = c.args in kept_out a.u.now a.s.now [] _ _ (rw c.in-Keep.is at c.outcome_of.ensures) c.refused.ensures
+returns-in-Keep c = let a = c.args in kept_out a.u.now a.s.now [] _ _ (rw c.in-Keep.is at c.outcome_of.ensures) c.numbered.ensures

@@ -4,10 +4,10 @@ use Rattle.out_outcome.proofs.Outcomes.{header_faulty, header_halts, header_acce
 use Rattle.out_outcome.proofs.outcome.header_says.Goals as goal
 
 pub returns-in_default : goal.returns-in_default
-returns-in_default c = header_faulty _ _ _ _ (sym c.read_header-read.ensures ∙ c.unwrap_err.ensures)
+returns-in_default c = c.halt_of.ensures ∙ header_faulty _ _ _ _ (sym c.read_header-read.ensures ∙ c.unwrap_err.ensures)
 
 pub returns-in-Err : goal.returns-in-Err
-returns-in-Err c = header_halts _ _ _ _ (sym c.read_header-read.ensures ∙ c.in-Ok.is) _ c.header_fault.ensures _ c.in-Err.is
+returns-in-Err c = c.halt_of-in-Err.ensures ∙ header_halts _ _ _ _ (sym c.read_header-read.ensures ∙ c.in-Ok.is) _ c.header_fault.ensures _ c.in-Err.is
 
 pub overflow_sub-s : goal.overflow_sub-s
 overflow_sub-s c = (good_lawful _ _ (sym c.read_header-read.ensures ∙ c.in-Ok.is)).0
