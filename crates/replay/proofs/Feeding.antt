@@ -10,7 +10,9 @@ use lib.ListN.{length, take, drop, length-drop}
 use lib.Seq.{take_all, drop-drop}
 use Rattle.rules.proofs.Choice.{at_true}
 use Rattle.port.specs.Device.{Device}
-use Rattle.text_put.specs.Text.{Page}
+use Rattle.text_put.specs.Text as Text
+use Rattle.text_put.specs.Pages.{page_of, SameBuffer}
+use Rattle.text_put.specs.declared.Page.{Page}
 use Rattle.text_words.specs.Text.{place, before, since}
 use Rattle.text_words.specs.Cut.{Cut, cut}
 use Rattle.text_words.proofs.Cut.{newline, line_then, first_line, no_line}
@@ -23,26 +25,29 @@ use Rattle.replay.specs.declared.feed.Feed.{Feed}
 
 -- ** a line
 
-pub stands_answered : (s : Standing) (line : List ℕ) (q : Page) (r : Unit) → Puts (ended s.skipping s.unit line) s.output q r
-    → record { unit = device_of r; skipping = false; output = q } ≡ answered_line s line
+pub stands_answered : (f : Feed) (line : List ℕ) (p q : Page) (r : Unit) → Puts (ended f.skipping (device_of f.unit) line) p q r
+    → record { unit = device_of r; skipping = false; output = page_of q } ≡ answered_line (standing f p) line
 unfolding answered_line
-stands_answered s line q r h =
-    ap (λ (u : Device). record { unit = u; skipping = false; output = q }) h.unit
-    ∙ ap (λ (o : Page). record { unit = (ended s.skipping s.unit line).unit; skipping = false; output = o }) h.text
+stands_answered f line p q r h =
+    ap (λ (u : Device). record { unit = u; skipping = false; output = page_of q }) h.unit
+    ∙ ap (λ (o : Text.Page). record { unit = (ended f.skipping (device_of f.unit) line).unit; skipping = false; output = o }) h.text.0
 
 -- the answers were written out
 stands_written : {f w : Feed} {before after : Page} → Writes f before after w → standing w after ≡ written_out (standing f before)
-stands_written {f = f} {w = w} {after = after} h = ap (λ (x : Feed). standing x after) h.rest ∙ ap (λ (p : Page). standing f p) h.output
+stands_written {f = f} {w = w} {after = after} h =
+    ap (λ (x : Feed). standing x after) h.rest ∙ ap (λ (o : Text.Page). record { unit = device_of f.unit; skipping = f.skipping; output = o }) h.output
 
 -- before a line the answers are written out where there is no room for one more
-pub made_room : (f w : Feed) (before after : Page) → is_nearly_full before ≡ true → Writes f before after w → standing w after ≡ with_room (standing f before)
+pub made_room : (f w : Feed) (before after : Page) → is_nearly_full (page_of before) ≡ true → Writes f before after w
+    → standing w after ≡ with_room (standing f before)
 made_room f w before after n h = stands_written h ∙ sym (at_true _ _ _ n)
 
 -- and then it is answered
-pub passed : {f w r : Feed} {line : List ℕ} {before free after : Page} → standing w free ≡ with_room (standing f before) → w.held ≡ f.held → Ends w line free after r
-    → Passes f line before after r
-passed {line = line} e k h = record {
+pub passed : {f w r : Feed} {line : List ℕ} {before free after : Page} → standing w free ≡ with_room (standing f before) → SameBuffer before free
+    → w.held ≡ f.held → Ends w line free after r → Passes f line before after r
+passed {line = line} e b k h = record {
   stands = h.stands ∙ ap (λ (s : Standing). answered_line s line) e;
+  buffer = h.buffer ∙ b;
   held = ap (λ (x : Feed). x.held) h.rest ∙ k;
 }
 
@@ -51,6 +56,7 @@ passed {line = line} e k h = record {
 -- of what is left the same is to be played as of all, by a feed that has played what stands before it
 pub record ToPlay (f₀ f : Feed) (text : List ℕ) (p₀ p : Page) (left : List ℕ) : Type 0 where
   pub stands : after_lines (standing f p) (cut left).lines ≡ after_lines (standing f₀ p₀) (cut text).lines
+  pub buffer : SameBuffer p₀ p
   pub held : f.held ≡ f₀.held
   pub rest : (cut left).rest ≡ (cut text).rest
   pub fits : length left ≤ length text
@@ -73,6 +79,7 @@ module _ (f₀ f : Feed) (text : List ℕ) (p₀ p : Page) (left : List ℕ) (l 
       let moved : d + suc n ≡ length text - length behind = omega arith in
       record {
         stands = ap (λ (x : Standing). after_lines x (cut behind).lines) h.stands ∙ ap (λ (c : Cut). after_lines (standing f p) c.lines) (sym first) ∙ l.stands;
+        buffer = h.buffer ∙ l.buffer;
         held = h.held ∙ l.held;
         rest = ap (λ (c : Cut). c.rest) (sym first) ∙ l.rest;
         fits = omega arith;
@@ -88,6 +95,7 @@ module _ (f₀ f : Feed) (text : List ℕ) (p₀ p : Page) (left : List ℕ) (l 
       let all : cut left ≡ record { lines = []; rest = left } = no_line left (omega arith) in
       record {
         stands = ap (λ (c : Cut). after_lines (standing f p) c.lines) (sym all) ∙ l.stands;
+        buffer = l.buffer;
         held = l.held;
         rest = l.place ∙ ap (λ (c : Cut). c.rest) (sym all) ∙ l.rest;
       }

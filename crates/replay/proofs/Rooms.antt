@@ -23,7 +23,7 @@ use Rattle.replay.specs.Played.{Means, polling}
 size_fits : (p : ℕ) → is_size p ≡ true → p ≤ 2048
 size_fits p e = ⊎_elim (λ h. let f = eqb-true p FULL_SPEED h in omega arith) (λ h. let f = eqb-true p HIGH_SPEED h in omega arith) (either _ _ e)
 
-packet_room : (u : Device) → step u (quiet (in_poll (min (packet_size u.state) 2048))) ≡ step u (quiet (in_poll (packet_size u.state)))
+pub packet_room : (u : Device) → step u (quiet (in_poll (min (packet_size u.state) 2048))) ≡ step u (quiet (in_poll (packet_size u.state)))
 unfolding step
 packet_room u =
     pick_both {A = Result} {B = Result} ◌≡◌ (is_sound u) _ _ _ _

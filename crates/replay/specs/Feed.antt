@@ -6,7 +6,10 @@ use Rattle.rules.specs.Choice.{◌<ᵇ◌, pick}
 use Rattle.wire.specs.Bytes.{into}
 use Rattle.port.specs.Parts.{FULL_SPEED}
 use Rattle.port.specs.Device.{Device, power_on}
-use Rattle.text_put.specs.Text.{Page, typed}
+use Rattle.text_put.specs.Text as Text
+use Rattle.text_put.specs.Text.{typed}
+use Rattle.text_put.specs.Pages.{page_of, SameBuffer}
+use Rattle.text_put.specs.declared.Page.{Page}
 use Rattle.text_words.specs.Cut.{cut}
 use Rattle.text_lines.specs.Lines.{LONGEST}
 use Rattle.text_answers.specs.Wrong.{too_long_text}
@@ -30,10 +33,10 @@ first_feed = record {
 pub record Standing : Type 0 where
   pub unit : Device
   pub skipping : Bool
-  pub output : Page
+  pub output : Text.Page
 
 abbrev pub standing : Feed → Page → Standing
-standing f p = record { unit = device_of f.unit; skipping = f.skipping; output = p }
+standing f p = record { unit = device_of f.unit; skipping = f.skipping; output = page_of p }
 
 -- ** a line that has come to its end
 
@@ -50,17 +53,19 @@ answered_line s line =
 -- and all else stays
 pub record Ends (f : Feed) (line : List ℕ) (before after : Page) (r : Feed) : Type 0 where
   pub stands : standing r after ≡ answered_line (standing f before) line
+  pub buffer : SameBuffer before after
   pub rest : r ≡ record { unit = r.unit; played = f.played; held = f.held; skipping = r.skipping; going = f.going }
 
 -- ** answers that are written out
 
 -- the page is free again
-abbrev pub emptied : Page → Page
+abbrev pub emptied : Text.Page → Text.Page
 emptied p = (p.0, 0)
 
 -- whether it could be written is not known beforehand
 pub record Writes (f : Feed) (before after : Page) (r : Feed) : Type 0 where
-  pub output : after ≡ emptied before
+  pub output : page_of after ≡ emptied (page_of before)
+  pub buffer : SameBuffer before after
   pub rest : r ≡ record { unit = f.unit; played = f.played; held = f.held; skipping = f.skipping; going = r.going }
 
 abbrev pub written_out : Standing → Standing
@@ -70,7 +75,7 @@ written_out s = record { unit = s.unit; skipping = s.skipping; output = emptied 
 abbrev pub ROOM : ℕ
 ROOM = 8192
 
-abbrev pub is_nearly_full : Page → Bool
+abbrev pub is_nearly_full : Text.Page → Bool
 is_nearly_full p = length p.0 - p.1 <ᵇ ROOM
 
 -- a page that is nearly full is written out before a line is played
@@ -79,6 +84,7 @@ with_room s = pick (is_nearly_full s.output) (written_out s) s
 
 pub record Passes (f : Feed) (line : List ℕ) (before after : Page) (r : Feed) : Type 0 where
   pub stands : standing r after ≡ answered_line (with_room (standing f before)) line
+  pub buffer : SameBuffer before after
   pub held : r.held ≡ f.held
 
 -- ** all lines of what was read
@@ -90,17 +96,20 @@ after_lines s (line ∷ lines) = after_lines (answered_line (with_room s) line) 
 -- each line is played and answered, in order and once, and from `played` on stands what has no end yet
 pub record Plays (f : Feed) (text : List ℕ) (before after : Page) (r : Feed) : Type 0 where
   pub stands : standing r after ≡ after_lines (standing f before) (cut text).lines
+  pub buffer : SameBuffer before after
   pub held : r.held ≡ f.held
   pub rest : drop r.played text ≡ (cut text).rest
 
 -- the same, with the answers written out; and of the last line, which no newline ends
 pub record PlaysOut (f : Feed) (text : List ℕ) (before after : Page) (r : Feed) : Type 0 where
   pub stands : standing r after ≡ written_out (after_lines (standing f before) (cut text).lines)
+  pub buffer : SameBuffer before after
   pub held : r.held ≡ f.held
   pub rest : drop r.played text ≡ (cut text).rest
 
 pub record EndsOut (f : Feed) (line : List ℕ) (before after : Page) (r : Feed) : Type 0 where
   pub stands : standing r after ≡ written_out (answered_line (standing f before) line)
+  pub buffer : SameBuffer before after
   pub stops : r.going ≡ false
 
 -- ** the part of a line that waits for its end

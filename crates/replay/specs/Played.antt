@@ -4,7 +4,8 @@ use Rattle.std.specs.Prelude.{ℕ, ◌≡◌, List, length}
 use Rattle.std.specs.Borrow.{MutBor}
 use Rattle.port.specs.Device.{Device}
 use Rattle.port.specs.Step.{Call, step, quiet, setup_of, in_poll, interrupt_poll, take_into}
-use Rattle.text_put.specs.Text.{Page, typed}
+use Rattle.text_put.specs.Pages.{Types}
+use Rattle.text_put.specs.declared.Page.{Page}
 use Rattle.text_answers.specs.Answer.{done_text, told_text}
 use Rattle.text_lines.specs.Lines as Lines
 use Rattle.text_lines.specs.Lines.{Lent, Meaning}
@@ -17,7 +18,7 @@ use Rattle.replay.specs.Play.{After, carried_out, room, told}
 -- the unit is that one, and the answer is put on the page, which was `p` before and is `q` after
 pub record Puts (a : After) (p q : Page) (r : Unit) : Type 0 where
   pub unit : device_of r ≡ a.unit
-  pub text : q ≡ typed p a.text
+  pub text : Types p a.text q
 
 -- what a call handed back, with its answer
 abbrev pub finished : Done → After

@@ -1,5 +1,6 @@
 // The lines in what was read.
 ghost use Rattle.std.specs.Prelude.{◌≡◌};
+ghost use Rattle.text_put.specs.Pages.{SameBuffer};
 ghost use Rattle.unit.specs.Promise.{device_of};
 ghost use Rattle.replay.specs.Played.{Puts};
 ghost use Rattle.replay.specs.Feed.{first_feed, ended, standing, Ends, Writes, with_room, Passes, Plays};
@@ -14,7 +15,7 @@ use unit::types::Unit;
 
 // The unit; how far the lines in the input are played, and how many bytes of a line wait there for its end. `skipping` says that the start
 // of that line was too long to keep, `going` that there is more to read and write. The input itself is lent apart, as it is read into.
-#[derive(Drop)]
+#[derive(Clone, Copy)]
 pub struct Feed {
     pub unit: Unit,
     pub played: usize,
@@ -81,6 +82,7 @@ impl Feed {
     #[tactic(auto, using(rules::proofs::Choice::picks))]
     fn make_room(&mut self, rt: &HostRuntime, page: &mut Page)
         ensures stands { standing self.new page.new ≡ with_room (standing self.old page.old) }
+        ensures buffer { SameBuffer page.old page.new }
         ensures held { self.new.held ≡ self.old.held }
     {
         if page.room() < ROOM {

@@ -1,6 +1,5 @@
 // One line: what it asks for, carried out and answered.
-ghost use Rattle.std.specs.Prelude.{◌≡◌};
-ghost use Rattle.text_put.specs.Text.{typed};
+ghost use Rattle.text_put.specs.Pages.{Types};
 ghost use Rattle.text_lines.specs.Lines.{row};
 ghost use Rattle.text_lines.specs.Asked.{wrong_asked};
 ghost use Rattle.unit.specs.Promise.{device_of};
@@ -42,7 +41,7 @@ fn called(unit: Unit, name: Name, first: &[u8], second: &[u8], page: &mut Page) 
 
 // The answer to a line that is wrong.
 fn put_wrong(page: &mut Page, wrong: Wrong)
-    ensures { page.new ≡ typed page.old (why_text (wrong_asked wrong.entry)) }
+    ensures { Types page.old (why_text (wrong_asked wrong.entry)) page.new }
 {
     match wrong {
         Wrong::TooLong => too_long(page),

@@ -1,6 +1,5 @@
 // The answer to a word that cannot be read.
-ghost use Rattle.std.specs.Prelude.{◌≡◌};
-ghost use Rattle.text_put.specs.Text.{typed};
+ghost use Rattle.text_put.specs.Pages.{Types};
 ghost use Rattle.unit.specs.Promise.{device_of};
 ghost use Rattle.replay.specs.Play.{unread_text, as_it_was};
 ghost use Rattle.replay.specs.Played.{Puts};
@@ -11,7 +10,7 @@ use text_put::Page;
 use unit::types::Unit;
 
 fn put_unread(page: &mut Page, word: &[u8], why: Unread)
-    ensures { page.new ≡ typed page.old (unread_text word.now why) }
+    ensures { Types page.old (unread_text word.now why) page.new }
 {
     match why {
         Unread::NoDecimal => no_decimal(page, word),

@@ -1,6 +1,6 @@
 // The answer to a call that was played.
 ghost use Rattle.std.specs.Prelude.{◌≡◌, take};
-ghost use Rattle.text_put.specs.Text.{typed};
+ghost use Rattle.text_put.specs.Pages.{Types};
 ghost use Rattle.text_answers.specs.Answer.{tells_text, verdict_text, done_text, filled, filled_behind, end_text, told_text};
 
 use rules::verdict::Verdict;
@@ -12,7 +12,7 @@ pub const FILL: u8 = 0xa5;
 
 #[tactic(auto, using(text_put::proofs::Text::typing), unfolding(crate::specs::Answer::tells_text))]
 fn put_tells(page: &mut Page, tells: u8)
-    ensures { page.new ≡ typed page.old (tells_text tells) }
+    ensures { Types page.old (tells_text tells) page.new }
 {
     match tells {
         TELLS_TRIGGER => page.put(b" trigger"),
@@ -23,7 +23,7 @@ fn put_tells(page: &mut Page, tells: u8)
 
 #[tactic(auto, using(text_put::proofs::Text::typing), unfolding(crate::specs::Answer::verdict_text))]
 fn put_verdict(page: &mut Page, verdict: Verdict)
-    ensures { page.new ≡ typed page.old (verdict_text verdict) }
+    ensures { Types page.old (verdict_text verdict) page.new }
 {
     page.put_decimal(u16::from(verdict.number));
     put_tells(page, verdict.tells);
@@ -32,7 +32,7 @@ fn put_verdict(page: &mut Page, verdict: Verdict)
 // The answer to a call that is lent no buffer.
 #[tactic(auto, using(text_put::proofs::Text::typing), unfolding(crate::specs::Answer::done_text))]
 pub fn put_done(page: &mut Page, verdict: Verdict)
-    ensures { page.new ≡ typed page.old (done_text verdict) }
+    ensures { Types page.old (done_text verdict) page.new }
 {
     put_verdict(page, verdict);
     page.put_byte(b'\n');
@@ -56,7 +56,7 @@ fn is_filled_behind(buffer: &[u8], len: usize) -> bool
 // The end of an answer, with a word where the call has written what it was not to write.
 #[tactic(auto, using(text_put::proofs::Text::typing), unfolding(crate::specs::Answer::end_text))]
 fn put_end(page: &mut Page, whole: bool)
-    ensures { page.new ≡ typed page.old (end_text whole) }
+    ensures { Types page.old (end_text whole) page.new }
 {
     if whole {
         page.put_byte(b'\n');
@@ -68,7 +68,7 @@ fn put_end(page: &mut Page, whole: bool)
 // The answer to a call that was lent a buffer, of which it wrote `len` bytes if it is answered 0.
 #[tactic(auto, using(text_put::proofs::Text::typing), unfolding(crate::specs::Answer::told_text))]
 pub fn put_told(page: &mut Page, verdict: Verdict, len: usize, buffer: &[u8])
-    ensures { page.new ≡ typed page.old (told_text verdict len buffer.now) }
+    ensures { Types page.old (told_text verdict len buffer.now) page.new }
 {
     put_verdict(page, verdict);
     if verdict.number == DONE {

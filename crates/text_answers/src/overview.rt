@@ -1,6 +1,6 @@
 // The answers to `state` and `more`: the parts of a unit, each on one line.
 ghost use Rattle.std.specs.Prelude.{◌≡◌};
-ghost use Rattle.text_put.specs.Text.{typed};
+ghost use Rattle.text_put.specs.Pages.{Types};
 ghost use Rattle.text_answers.specs.Overview.{flag_text, halted_text, remote_text, split_text};
 ghost use Rattle.text_answers.specs.Overview.{port_text, halts_text, message_text, reply_text, tags_text, overview_text};
 ghost use Rattle.text_answers.specs.Overview.{notify_text, more_text};
@@ -11,7 +11,7 @@ use text_put::Page;
 // 0 or 1.
 #[tactic(auto, using(text_put::proofs::Text::typing), unfolding(crate::specs::Overview::flag_text))]
 fn put_flag(page: &mut Page, flag: bool)
-    ensures { page.new ≡ typed page.old (flag_text flag) }
+    ensures { Types page.old (flag_text flag) page.new }
 {
     page.put_byte(if flag { b'1' } else { b'0' });
 }
@@ -29,7 +29,7 @@ fn remote_name(remote: Remote) -> [u8; 4]
 }
 
 fn put_split(page: &mut Page, split: Split)
-    ensures { page.new ≡ typed page.old (split_text split) }
+    ensures { Types page.old (split_text split) page.new }
 {
     match split {
         Split::None => page.put(b" split=none"),
@@ -41,7 +41,7 @@ fn put_split(page: &mut Page, split: Split)
 
 #[tactic(auto, using(text_put::proofs::Text::typing), unfolding(crate::specs::Overview::halted_text))]
 fn put_halted(page: &mut Page, halted: u8)
-    ensures { page.new ≡ typed page.old (halted_text halted) }
+    ensures { Types page.old (halted_text halted) page.new }
 {
     if halted == 1 {
         page.put(b"halted");
@@ -53,7 +53,7 @@ fn put_halted(page: &mut Page, halted: u8)
 // The message that Bulk-OUT brings: whole, a part of one, or none.
 #[tactic(auto, using(text_put::proofs::Text::typing), unfolding(crate::specs::Overview::message_text))]
 fn put_message(page: &mut Page, ready: u8, held: u16, left: u16)
-    ensures { page.new ≡ typed page.old (message_text ready held left) }
+    ensures { Types page.old (message_text ready held left) page.new }
 {
     if ready == 1 {
         page.put(b" message=ready:");
@@ -70,7 +70,7 @@ fn put_message(page: &mut Page, ready: u8, held: u16, left: u16)
 
 #[tactic(auto, using(text_put::proofs::Text::typed_then), unfolding(crate::specs::Overview::port_text))]
 fn put_port(page: &mut Page, configured: u8, ren: u8, remote: Remote, status: u8)
-    ensures { page.new ≡ typed page.old (port_text configured ren remote status) }
+    ensures { Types page.old (port_text configured ren remote status) page.new }
 {
     page.put(b"0 configured=");
     put_flag(page, configured == 1);
@@ -84,7 +84,7 @@ fn put_port(page: &mut Page, configured: u8, ren: u8, remote: Remote, status: u8
 
 #[tactic(auto, using(text_put::proofs::Text::typing), unfolding(crate::specs::Overview::halts_text))]
 fn put_halts(page: &mut Page, halted_out: u8, halted_in: u8)
-    ensures { page.new ≡ typed page.old (halts_text halted_out halted_in) }
+    ensures { Types page.old (halts_text halted_out halted_in) page.new }
 {
     page.put(b" out=");
     put_halted(page, halted_out);
@@ -94,7 +94,7 @@ fn put_halts(page: &mut Page, halted_out: u8, halted_in: u8)
 
 #[tactic(auto, using(text_put::proofs::Text::typing), unfolding(crate::specs::Overview::tags_text))]
 fn put_tags(page: &mut Page, recent_out: u8, recent_in: u8)
-    ensures { page.new ≡ typed page.old (tags_text recent_out recent_in) }
+    ensures { Types page.old (tags_text recent_out recent_in) page.new }
 {
     page.put(b" tags=");
     page.put_pair(recent_out);
@@ -105,7 +105,7 @@ fn put_tags(page: &mut Page, recent_out: u8, recent_in: u8)
 // The bytes of the reply that have not gone, the split in progress, and whether the empty packet is owed.
 #[tactic(auto, using(text_put::proofs::Text::typing), unfolding(crate::specs::Overview::reply_text))]
 fn put_reply(page: &mut Page, unsent: u16, split: Split, owed: bool)
-    ensures { page.new ≡ typed page.old (reply_text unsent split owed) }
+    ensures { Types page.old (reply_text unsent split owed) page.new }
 {
     page.put(b" reply=");
     page.put_decimal(unsent);
@@ -116,7 +116,7 @@ fn put_reply(page: &mut Page, unsent: u16, split: Split, owed: bool)
 
 #[tactic(auto, using(text_put::proofs::Text::typing), unfolding(crate::specs::Overview::overview_text))]
 pub fn put_overview(page: &mut Page, small: Small, split: Split, remote: Remote)
-    ensures { page.new ≡ typed page.old (overview_text small split remote) }
+    ensures { Types page.old (overview_text small split remote) page.new }
 {
     put_port(
         page,
@@ -145,7 +145,7 @@ pub fn put_overview(page: &mut Page, small: Small, split: Split, remote: Remote)
 // The packet that waits on Interrupt-IN, by its two bytes.
 #[tactic(auto, using(text_put::proofs::Text::typing), unfolding(crate::specs::Overview::notify_text))]
 fn put_notify(page: &mut Page, notify1: u8, notify2: u8)
-    ensures { page.new ≡ typed page.old (notify_text notify1 notify2) }
+    ensures { Types page.old (notify_text notify1 notify2) page.new }
 {
     if notify1 == 0 {
         page.put(b" int=none");
@@ -158,7 +158,7 @@ fn put_notify(page: &mut Page, notify1: u8, notify2: u8)
 
 #[tactic(auto, using(text_put::proofs::Text::typed_then), unfolding(crate::specs::Overview::more_text))]
 pub fn put_more(page: &mut Page, small: Small)
-    ensures { page.new ≡ typed page.old (more_text small) }
+    ensures { Types page.old (more_text small) page.new }
 {
     page.put(b"0 p=");
     page.put_decimal(small.port.setting.packet);

@@ -1,6 +1,5 @@
 // The answers to lines that cannot be read: `? ` and what is wrong, in words. A function for each: they differ in nothing but the words.
-ghost use Rattle.std.specs.Prelude.{◌≡◌};
-ghost use Rattle.text_put.specs.Text.{typed};
+ghost use Rattle.text_put.specs.Pages.{Types};
 ghost use Rattle.text_answers.specs.Wrong.{shown_byte, quoted_text, wrong_text, too_long_text, unknown_name_text, too_few_words_text};
 ghost use Rattle.text_answers.specs.Wrong.{too_many_words_text, no_status_text, no_decimal_text, too_large_text, no_hex_digit_text, odd_hex_text};
 
@@ -12,7 +11,7 @@ const SHOWN: usize = 24;
 // A byte as it is shown: what cannot be printed is a question mark.
 #[tactic(auto, using(text_put::proofs::Text::typing), unfolding(crate::specs::Wrong::shown_byte))]
 fn put_shown(page: &mut Page, byte: u8)
-    ensures { page.new ≡ typed page.old (shown_byte byte) }
+    ensures { Types page.old (shown_byte byte) page.new }
 {
     match byte {
         b' '..=b'~' => page.put_byte(byte),
@@ -23,7 +22,7 @@ fn put_shown(page: &mut Page, byte: u8)
 // A word in quotes, cut where it is long.
 #[tactic(auto, using(text_put::proofs::Text::typing), unfolding(crate::specs::Wrong::quoted_text))]
 fn put_word(page: &mut Page, word: &[u8])
-    ensures { page.new ≡ typed page.old (quoted_text word.now) }
+    ensures { Types page.old (quoted_text word.now) page.new }
 {
     page.put_byte(b'`');
     if word.len() <= SHOWN {
@@ -38,7 +37,7 @@ fn put_word(page: &mut Page, word: &[u8])
 // A line that says `? `, a word and what is wrong with it.
 #[tactic(auto, using(text_put::proofs::Text::typing), unfolding(crate::specs::Wrong::wrong_text))]
 fn put_wrong(page: &mut Page, word: &[u8], wrong: &[u8])
-    ensures { page.new ≡ typed page.old (wrong_text word.now wrong.now) }
+    ensures { Types page.old (wrong_text word.now wrong.now) page.new }
 {
     page.put(b"? ");
     put_word(page, word);
@@ -47,13 +46,13 @@ fn put_wrong(page: &mut Page, word: &[u8], wrong: &[u8])
 }
 
 pub fn too_long(page: &mut Page)
-    ensures { page.new ≡ typed page.old too_long_text }
+    ensures { Types page.old too_long_text page.new }
 {
     page.put(b"? the line has over 4096 bytes and was skipped\n");
 }
 
 pub fn unknown_name(page: &mut Page, word: &[u8])
-    ensures { page.new ≡ typed page.old (unknown_name_text word.now) }
+    ensures { Types page.old (unknown_name_text word.now) page.new }
 {
     put_wrong(
         page,
@@ -63,25 +62,25 @@ pub fn unknown_name(page: &mut Page, word: &[u8])
 }
 
 pub fn too_few_words(page: &mut Page, word: &[u8])
-    ensures { page.new ≡ typed page.old (too_few_words_text word.now) }
+    ensures { Types page.old (too_few_words_text word.now) page.new }
 {
     put_wrong(page, word, b" needs a word behind it");
 }
 
 pub fn too_many_words(page: &mut Page, word: &[u8])
-    ensures { page.new ≡ typed page.old (too_many_words_text word.now) }
+    ensures { Types page.old (too_many_words_text word.now) page.new }
 {
     put_wrong(page, word, b" is a word too many");
 }
 
 pub fn no_status(page: &mut Page, word: &[u8])
-    ensures { page.new ≡ typed page.old (no_status_text word.now) }
+    ensures { Types page.old (no_status_text word.now) page.new }
 {
     put_wrong(page, word, b" is no status byte: give two hex digits");
 }
 
 pub fn no_decimal(page: &mut Page, word: &[u8])
-    ensures { page.new ≡ typed page.old (no_decimal_text word.now) }
+    ensures { Types page.old (no_decimal_text word.now) page.new }
 {
     put_wrong(page, word, b" is no decimal number");
 }
@@ -89,7 +88,7 @@ pub fn no_decimal(page: &mut Page, word: &[u8])
 // A number that is too large, with the largest that can be read.
 #[tactic(auto, using(text_put::proofs::Text::typed_then), unfolding(crate::specs::Wrong::too_large_text))]
 pub fn too_large(page: &mut Page, word: &[u8], most: u16)
-    ensures { page.new ≡ typed page.old (too_large_text word.now most) }
+    ensures { Types page.old (too_large_text word.now most) page.new }
 {
     page.put(b"? ");
     put_word(page, word);
@@ -99,7 +98,7 @@ pub fn too_large(page: &mut Page, word: &[u8], most: u16)
 }
 
 pub fn no_hex_digit(page: &mut Page, byte: u8)
-    ensures { page.new ≡ typed page.old (no_hex_digit_text byte) }
+    ensures { Types page.old (no_hex_digit_text byte) page.new }
 {
     put_wrong(
         page,
@@ -109,7 +108,7 @@ pub fn no_hex_digit(page: &mut Page, byte: u8)
 }
 
 pub fn odd_hex(page: &mut Page, word: &[u8])
-    ensures { page.new ≡ typed page.old (odd_hex_text word.now) }
+    ensures { Types page.old (odd_hex_text word.now) page.new }
 {
     put_wrong(page, word, b" has an odd number of hex digits");
 }

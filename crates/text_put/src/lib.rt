@@ -3,38 +3,34 @@
 
 ghost use Rattle.std.specs.Prelude.{ℕ, ◌≡◌, List, ◌∷◌, [], ◌-◌, ◌%◌, ◌<◌, ◌≤◌, length, take};
 ghost use Rattle.text_put.specs.Text.{typed, spelled};
+ghost use Rattle.text_put.specs.Pages.{page_of, SameBuffer, Types};
 ghost use Rattle.text_put.specs.Numbers.{digit_of, five_digits, zeros_in_front, decimal_text, pair_text, hex_text};
 
-use std::marker::Model;
-
-// A lent buffer, and the place where the next byte goes.
+// A lent buffer, and the place where the next byte goes, which may be past its end.
 #[derive(Drop)]
 pub struct Page<'a> {
     out: &'a mut [u8],
     at: usize,
 }
 
-impl<'a> Model for Page<'a> {
-    ghost use Rattle.std.specs.Prelude.{◌≤◌, length};
-    ghost use Rattle.text_put.specs.Text.{Page};
-
-    ghost Value = { Page };
-
-    ghost view = { λ p. (p.out.now, p.at) };
-
-    ghost invariant = { λ p. p.at ≤ length p.out.now };
-}
-
 impl<'a> Page<'a> {
     pub fn new(out: &'a mut [u8]) -> Self
-        ensures { result ≡ (out.old, 0) }
+        ensures shows { page_of result ≡ (out.old, 0) }
+        ensures same_buffer { result.out.ghost_name ≡ out.entry.ghost_name }
     {
-        Page { out, at: 0 }
+        Self::at(out, 0)
+    }
+
+    pub fn at(out: &'a mut [u8], at: usize) -> Self
+        ensures shows { page_of result ≡ (out.old, at) }
+        ensures same_buffer { result.out.ghost_name ≡ out.entry.ghost_name }
+    {
+        Page { out, at }
     }
 
     #[tactic(auto, using(crate::proofs::Text::typed_byte_lem, crate::proofs::Text::typed_over))]
     pub fn put_byte(&mut self, byte: u8)
-        ensures { self.new ≡ typed self.old (byte ∷ []) }
+        ensures { Types self.old (byte ∷ []) self.new }
     {
         if self.at < self.out.len() {
             self.out[self.at] = byte;
@@ -44,7 +40,7 @@ impl<'a> Page<'a> {
 
     #[tactic(auto, using(crate::proofs::Text::typed_none, crate::proofs::Text::typed_more))]
     pub fn put(&mut self, text: &[u8])
-        ensures { self.new ≡ typed self.old text.now }
+        ensures { Types self.old text.now self.new }
     {
         for &byte in text {
             self.put_byte(byte);
@@ -56,43 +52,59 @@ impl<'a> Page<'a> {
     pub fn spell<F: Fn(&mut Page, u8)>(&mut self, bytes: &[u8], put_one: F)
         ghost spelling: { ℕ → List ℕ }
         requires callable { F.IsAlwaysCallable put_one }
-        requires spells { (p : _) (b : ℕ) (q : _) → b < 256 → F.post put_one p b tt q → q.now ≡ typed p.now (spelling b) }
-        ensures { self.new ≡ typed self.old (spelled spelling bytes.now) }
+        requires spells { (p : _) (b : ℕ) (q : _) → b < 256 → F.post put_one p b tt q → Types p.now (spelling b) q.now }
+        ensures { Types self.old (spelled spelling bytes.now) self.new }
     {
         for &byte in bytes {
             put_one(self, byte);
         }
     }
 
-    // The bytes that were put.
-    pub fn text(&self) -> &[u8]
-        ensures { result.now ≡ take self.now.1 self.now.0 }
+    // The place where the next byte goes.
+    pub fn place(&self) -> usize
+        ensures { result ≡ (page_of self.now).1 }
     {
-        &self.out[..self.at]
+        self.at
+    }
+
+    // The bytes in front of the place.
+    pub fn text(&self) -> &[u8]
+        ensures { result.now ≡ take (page_of self.now).1 (page_of self.now).0 }
+    {
+        first_part(self.out, self.at)
     }
 
     // How many bytes still fit.
     pub fn room(&self) -> usize
-        ensures { result ≡ length self.now.0 - self.now.1 }
+        ensures { result ≡ length (page_of self.now).0 - (page_of self.now).1 }
     {
-        self.out.len() - self.at
+        self.out.len().saturating_sub(self.at)
+    }
+
+    // The next byte goes there.
+    pub fn go_to(&mut self, at: usize)
+        ensures goes { page_of self.new ≡ ((page_of self.old).0, at) }
+        ensures same_buffer { SameBuffer self.old self.new }
+    {
+        self.at = at;
     }
 
     // The next byte goes to the start again.
     pub fn clear(&mut self)
-        ensures { self.new ≡ (self.old.0, 0) }
+        ensures goes { page_of self.new ≡ ((page_of self.old).0, 0) }
+        ensures same_buffer { SameBuffer self.old self.new }
     {
-        self.at = 0;
+        self.go_to(0);
     }
 
     pub fn put_decimal(&mut self, n: u16)
-        ensures { self.new ≡ typed self.old (decimal_text n) }
+        ensures { Types self.old (decimal_text n) self.new }
     {
         self.put(&five_digits(n)[zeros_in_front(n)..]);
     }
 
     pub fn put_pair(&mut self, byte: u8)
-        ensures { self.new ≡ typed self.old (pair_text byte) }
+        ensures { Types self.old (pair_text byte) self.new }
     {
         self.put(&pair(byte));
     }
@@ -100,7 +112,7 @@ impl<'a> Page<'a> {
     // The bytes in hex, or `-` where there are none.
     #[tactic(auto, using(crate::proofs::Text::typing), unfolding(crate::specs::Numbers::hex_text))]
     pub fn put_hex(&mut self, bytes: &[u8])
-        ensures { self.new ≡ typed self.old (hex_text bytes.now) }
+        ensures { Types self.old (hex_text bytes.now) self.new }
     {
         if bytes.is_empty() {
             self.put_byte(b'-');
@@ -108,6 +120,15 @@ impl<'a> Page<'a> {
             self.spell(bytes, |page, byte| page.put_pair(byte));
         }
     }
+}
+
+// Puts a text into a buffer from a place on, and hands back the place behind it.
+pub fn put(out: &mut [u8], at: usize, text: &[u8]) -> usize
+    ensures { (out.new, result) ≡ typed (out.old, at) text.now }
+{
+    let mut page = Page::at(out, at);
+    page.put(text);
+    page.place()
 }
 
 // The digit of a number below 16, in lower case.

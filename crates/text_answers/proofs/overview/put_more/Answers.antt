@@ -5,4 +5,4 @@ use Rattle.text_answers.proofs.overview.put_more.Goals as goal
 
 pub returns : goal.returns
 unfolding more_text
-returns c = simp typed_then (cc)
+returns c = (simp typed_then (cc), cc)

@@ -5,4 +5,4 @@ use Rattle.text_answers.proofs.overview.put_port.Goals as goal
 
 pub returns : goal.returns
 unfolding port_text
-returns c = simp typed_then (cc)
+returns c = (simp typed_then (cc), cc)

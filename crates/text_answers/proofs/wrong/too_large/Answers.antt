@@ -5,4 +5,4 @@ use Rattle.text_answers.proofs.wrong.too_large.Goals as goal
 
 pub returns : goal.returns
 unfolding too_large_text
-returns c = simp typed_then (cc)
+returns c = (simp typed_then (cc), cc)

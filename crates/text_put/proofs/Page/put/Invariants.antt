@@ -1,8 +1,7 @@
 -- `text_put::Page::put` meets its contract: after i turns the first i bytes of the text are put.
-use mathlib.Core.Path.{◌≡◌}
 use lib.ListN.{take}
-use Rattle.text_put.specs.Text.{typed}
+use Rattle.text_put.specs.Pages.{Types}
 use Rattle.text_put.proofs.Page.put.Given as goal
 
 abbrev pub invariant-loop-byte : goal.invariant-loop-byte
-invariant-loop-byte l = l.self ≡ typed l.initial.self (take l.byte-index l.text)
+invariant-loop-byte l = Types l.initial.self (take l.byte-index l.text) l.self
