@@ -1,7 +1,7 @@
 // What a line asks for.
 ghost use Rattle.std.specs.Prelude.{◌≡◌};
 ghost use Rattle.text_lines.specs.Lines.{row, called, meaning_of, meaning};
-ghost use Rattle.text_lines.specs.Asked.{call_meant, meant};
+ghost use Rattle.text_lines.specs.Asked.{asked_call, asked_text, asked, call_told, told, call_meant, meant};
 
 use crate::names::{Name, name_of};
 use text_words::words::{nth_word, said};
@@ -9,7 +9,7 @@ use text_words::words::{nth_word, said};
 // The most bytes of a line, its newline not counted.
 pub const LONGEST: usize = 4096;
 
-// A call, and the first two words behind its name.
+// A call, and the first two words behind its name, whether it reads them or not.
 #[derive(Clone, Copy)]
 pub struct Call<'a> {
     pub name: Name,
@@ -27,9 +27,10 @@ pub enum Wrong<'a> {
 }
 
 // What a text that begins with this name asks for.
-#[tactic(auto, using(rules::proofs::Choice::picks))]
+#[tactic(auto, using(rules::proofs::Choice::picks), unfolding(crate::specs::Asked::asked_call))]
 fn asked_call(text: &[u8], name: Name) -> Result<Call<'_>, Wrong<'_>>
-    ensures { call_meant result ≡ called text.now (row name) }
+    ensures asks { call_told result ≡ asked_call text.now name }
+    ensures means { call_meant result ≡ called text.now (row name) }
 {
     let behind = name.words();
     if nth_word(text, behind.least).is_empty() {
@@ -47,9 +48,10 @@ fn asked_call(text: &[u8], name: Name) -> Result<Call<'_>, Wrong<'_>>
 }
 
 // What a line's text asks for.
-#[tactic(auto, using(rules::proofs::Choice::picks))]
+#[tactic(auto, using(rules::proofs::Choice::picks), unfolding(crate::specs::Asked::asked_text))]
 fn asked_text(text: &[u8]) -> Result<Option<Call<'_>>, Wrong<'_>>
-    ensures { meant result ≡ meaning_of text.now }
+    ensures asks { told result ≡ asked_text text.now }
+    ensures means { meant result ≡ meaning_of text.now }
 {
     let word = nth_word(text, 0);
     if word.is_empty() {
@@ -60,9 +62,10 @@ fn asked_text(text: &[u8]) -> Result<Option<Call<'_>>, Wrong<'_>>
 }
 
 // What a line asks for: a call, or nothing where it has no word.
-#[tactic(auto, using(rules::proofs::Choice::picks), unfolding(crate::specs::Lines::meaning))]
+#[tactic(auto, using(rules::proofs::Choice::picks), unfolding(crate::specs::Asked::asked, crate::specs::Lines::meaning))]
 pub fn read_line(line: &[u8]) -> Result<Option<Call<'_>>, Wrong<'_>>
-    ensures { meant result ≡ meaning line.now }
+    ensures asks { told result ≡ asked line.now }
+    ensures means { meant result ≡ meaning line.now }
 {
     if line.len() > LONGEST {
         return Err(Wrong::TooLong);

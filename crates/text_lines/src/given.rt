@@ -3,7 +3,7 @@ ghost use Rattle.std.specs.Prelude.{◌≡◌};
 ghost use Rattle.text_lines.specs.Given.{no_decimal, no_hex, size_of, length_of, given_by, status_of};
 
 use text_words::bytes::Bytes;
-use text_words::numbers::{DecimalError, HexError, decimal, hex};
+use text_words::numbers::{DecimalError, HexError, decimal, hex, pairs, readable};
 
 // The largest packet size and buffer that can be read.
 const LARGEST_SIZE: u16 = 65535;
@@ -62,12 +62,13 @@ pub fn given_length(word: &[u8]) -> Result<Option<u16>, Unread>
     Ok(Some(decimal(word, LARGEST_BUFFER)?))
 }
 
-// Bytes.
-#[tactic(auto, unfolding(crate::specs::Given::given_by))]
+// Bytes. They are not had of `hex`: an answer that holds so many of them would be moved into another here, and cleared before.
+#[tactic(auto, using(text_words::proofs::Hex::reads, text_words::proofs::Hex::refuses), unfolding(crate::specs::Given::given_by))]
 pub fn given_bytes(word: &[u8]) -> Result<Bytes, Unread>
     ensures { result ≡ given_by word.now }
 {
-    Ok(hex(word)?)
+    readable(word)?;
+    Ok(pairs(word))
 }
 
 // One byte.
@@ -75,8 +76,12 @@ pub fn given_bytes(word: &[u8]) -> Result<Bytes, Unread>
 pub fn given_status(word: &[u8]) -> Result<u8, Unread>
     ensures { result ≡ status_of word.now }
 {
-    match hex(word)?.as_slice() {
-        [byte] => Ok(*byte),
-        _ => Err(Unread::NoStatus),
+    let bytes = &hex(word);
+    match bytes {
+        Ok(bytes) => match bytes.as_slice() {
+            [byte] => Ok(*byte),
+            _ => Err(Unread::NoStatus),
+        },
+        Err(why) => Err(Unread::from(*why)),
     }
 }

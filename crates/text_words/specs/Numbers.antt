@@ -58,3 +58,12 @@ read_hex w =
     has is_no_hex_digit w ⇒ Err (NotHex (first_of is_no_hex_digit w)) ∣
     length w % 2 ≠ᵇ 0 ⇒ Err Odd ∣ [])
     (Ok (first_pairs w))
+
+-- whether a word is bytes, and no more: what is wrong with it otherwise. proofs/Hex.antt has that `read_hex` says the same
+unfoldable pub readable : List ℕ → Result (Unit {0}) HexError
+readable w =
+    first
+    (w is "-" ⇒ Ok tt ∣
+    has is_no_hex_digit w ⇒ Err (NotHex (first_of is_no_hex_digit w)) ∣
+    length w % 2 ≠ᵇ 0 ⇒ Err Odd ∣ [])
+    (Ok tt)

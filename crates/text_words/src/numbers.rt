@@ -1,6 +1,6 @@
 // Numbers and bytes in words.
 ghost use Rattle.std.specs.Prelude.{◌≡◌, ◌+◌, ◌-◌, ◌*◌, ◌<◌};
-ghost use Rattle.text_words.specs.Numbers.{at_most, read_decimal, first_pairs, read_hex};
+ghost use Rattle.text_words.specs.Numbers.{at_most, read_decimal, first_pairs, read_hex, readable};
 ghost use Rattle.text_words.specs.Numbers as Numbers;
 ghost use Rattle.text_words.specs.Text.{is_no_hex_digit, found};
 
@@ -59,7 +59,7 @@ fn nibble(byte: u8) -> u8
 }
 
 // The bytes of pairs of digits.
-fn pairs(word: &[u8]) -> Bytes
+pub fn pairs(word: &[u8]) -> Bytes
     ensures { result ≡ first_pairs word.now }
 {
     let mut bytes = Bytes::new();
@@ -78,17 +78,27 @@ fn no_hex_digit(word: &[u8]) -> Option<u8>
     word.iter().find(|byte| !byte.is_ascii_hexdigit()).copied()
 }
 
-// The bytes of a word; `-` is none.
+// Whether a word is bytes in hex; `-` is none of them.
+pub fn readable(word: &[u8]) -> Result<(), HexError>
+    ensures { result ≡ readable word.now }
+{
+    if word == b"-".as_slice() {
+        return Ok(());
+    }
+    if let Some(byte) = no_hex_digit(word) {
+        return Err(HexError::NotHex(byte));
+    }
+    if word.len() % 2 != 0 {
+        return Err(HexError::Odd);
+    }
+    Ok(())
+}
+
+// The bytes of a word.
+#[tactic(auto, using(crate::proofs::Hex::reads, crate::proofs::Hex::refuses))]
 pub fn hex(word: &[u8]) -> Result<Bytes, HexError>
     ensures { result ≡ read_hex word.now }
 {
-    if word == b"-".as_slice() {
-        Ok(Bytes::new())
-    } else if let Some(byte) = no_hex_digit(word) {
-        Err(HexError::NotHex(byte))
-    } else if word.len() % 2 != 0 {
-        Err(HexError::Odd)
-    } else {
-        Ok(pairs(word))
-    }
+    readable(word)?;
+    Ok(pairs(word))
 }
