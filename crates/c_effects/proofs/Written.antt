@@ -1,16 +1,19 @@
 -- What each effect of a row does to a unit in bytes.
 -- Assumes nothing.
 use Prim.Native.Nat.{ℕ}
-use mathlib.Core.Path.{◌≡◌, sym, subst}
-use mathlib.Core.List.{List, [], ◌∷◌}
-use lib.Seq.{paste}
+use mathlib.Core.Path.{◌≡◌, sym, ap, subst, ◌∙◌}
+use mathlib.Core.List.{List, [], ◌∷◌, ◌++◌, append-nil}
+use native.Mathlib.Omega.{arith}
+use lib.ListN.{length, take, drop, drop_of_length-le, length-append}
+use lib.Seq.{paste, take_all}
 use borrow.Author.Tests.{eq-eqb, ne_eqb}
 use Rattle.rules.proofs.Choice.{at_true, at_false}
 use Rattle.port.specs.Parts.{port_of, out_of, in_of, interrupt_of, with_ren, empty_out, broken}
 use Rattle.port.specs.Interrupt.{status_queued}
 use Rattle.port.specs.Remote.{to_local, locked_out, with_ren_on, local_now}
 use Rattle.port.specs.Rows.{owing, cleared_in, clearing, clear_feature_out, clear_feature_in, effected}
-use Rattle.port.specs.Device.{with_state}
+use Rattle.port.specs.Device.{Device, with_state}
+use Rattle.port.specs.Laws.{Stored}
 use Rattle.port.specs.declared.types.Effect.{Effect}
 use Rattle.port.specs.declared.types.Effect.TheVariants.{Stays, AbortsOut, AbortsIn, Clears, EndsSplit, SetsRen}
 use Rattle.port.specs.declared.types.Effect.TheVariants.{GoesToLocal, LocksOut, ClearsHalt, SetsHalt, Queues}
@@ -19,8 +22,9 @@ use Rattle.port.specs.declared.types.Remote.TheVariants.{Locs}
 use Rattle.port.specs.declared.types.State.{State}
 use Rattle.wire.specs.declared.types.Endpoint.TheVariants.{Out, In, Interrupt}
 use Rattle.c_bytes.specs.Layout.{PORT, INTERRUPT, SPLIT, PORT_AT, OUT_MESSAGE_AT, IN_REPLY_AT, IN_HALTED_AT, INTERRUPT_AT, INTERRUPT_HALTED_AT}
-use Rattle.c_bytes.specs.Layout.{SPLIT_AT, REMOTE_AT, port_bytes, interrupt_bytes, remote_number, split_bytes, state_in, unit_in}
+use Rattle.c_bytes.specs.Layout.{UNIT, unit_bytes, SPLIT_AT, REMOTE_AT, port_bytes, interrupt_bytes, remote_number, split_bytes, state_in, unit_in}
 use Rattle.c_bytes.specs.Sides.{OUT, IN, out_bytes, in_bytes}
+use Rattle.c_bytes.proofs.Parted.{stores_long, bytes_long}
 use Rattle.c_parts.proofs.Puts.{Holds, port_put, out_put, in_put, in_halted_put, interrupt_put, interrupt_halted_put, split_put, remote_put}
 use Rattle.c_effects.specs.Does.{Does}
 
@@ -96,3 +100,17 @@ module _ (u u' : List ℕ) where
   pub queues : (tag : ℕ) → u' ≡ paste u INTERRUPT_AT (interrupt_bytes (status_queued (interrupt_of (state_in u)) tag)) INTERRUPT → Does u (Queues tag) u'
   unfolding unit_in effected
   queues tag f = does (Queues tag) (λ h. (interrupt_put _).to h f)
+
+-- ** in more bytes than a unit's
+
+unit_long : (d : Device) → Stored d → length (unit_bytes d) ≡ UNIT
+unfolding unit_bytes
+unit_long d h = simp length-append (omega (arith, stores_long d h, bytes_long d.state))
+
+pub past_unit : (u x : List ℕ) (effect : Effect) → Does (take UNIT u) effect x → Does u effect (x ++ drop UNIT u)
+past_unit u x effect h = record {
+  to = λ stored e.
+      let long : length u ≡ UNIT = ap length e ∙ unit_long (unit_in u) stored in
+      let whole : Does u effect x = subst (λ (v : List ℕ). Does v effect x) (take_all UNIT u (omega arith)) h in
+      ap (λ (v : List ℕ). x ++ v) (drop_of_length-le u {i = UNIT} (omega arith)) ∙ append-nil x ∙ whole.to stored e;
+}

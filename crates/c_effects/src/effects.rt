@@ -1,4 +1,6 @@
 // What an answered row does to the unit in bytes.
+ghost use Rattle.std.specs.Prelude.{◌≤◌, length};
+ghost use Rattle.c_bytes.specs.Layout.{UNIT};
 ghost use Rattle.c_effects.specs.Does.{Does};
 
 use c_bytes::places::{IN_HALTED_AT, INTERRUPT_HALTED_AT, UNIT};
@@ -110,7 +112,7 @@ fn queues(u: &mut [u8; UNIT], tag: u8)
 }
 
 #[tactic(auto, using(crate::proofs::Written::stays, crate::proofs::Written::ends_split))]
-pub fn put_effect(u: &mut [u8; UNIT], effect: Effect)
+fn carry_out(u: &mut [u8; UNIT], effect: Effect)
     ensures { Does u.old effect u.new }
 {
     match effect {
@@ -125,5 +127,16 @@ pub fn put_effect(u: &mut [u8; UNIT], effect: Effect)
         Effect::ClearsHalt { endpoint } => clears_halt(u, endpoint),
         Effect::SetsHalt { endpoint } => sets_halt(u, endpoint),
         Effect::Queues { tag } => queues(u, tag),
+    }
+}
+
+// What stands behind the unit's bytes stays.
+#[tactic(auto, using(crate::proofs::Written::past_unit))]
+pub fn put_effect(u: &mut [u8], effect: Effect)
+    requires { UNIT ≤ length u.old }
+    ensures { Does u.old effect u.new }
+{
+    if let Some(unit) = u.first_chunk_mut::<UNIT>() {
+        carry_out(unit, effect);
     }
 }

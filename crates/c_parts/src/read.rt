@@ -1,5 +1,5 @@
 // A part of a unit from its bytes.
-ghost use Rattle.std.specs.Prelude.{◌≡◌, ℕ, ◌+◌, ◌≤◌};
+ghost use Rattle.std.specs.Prelude.{◌≡◌, ℕ, ◌+◌, ◌≤◌, length};
 ghost use Rattle.rules.specs.Choice.{◌and◌};
 ghost use Rattle.port.specs.Parts.{out_of, in_of};
 ghost use Rattle.port.specs.Sound.{sound};
@@ -14,8 +14,8 @@ use port::types::{BulkIn, BulkOut, Small, State};
 use state_sound::sound::sound;
 
 // N of its bytes, from `at` on.
-pub fn part<const N: usize>(u: &[u8; UNIT], at: usize) -> &[u8; N]
-    requires { at + N ≤ UNIT }
+pub fn part<const N: usize>(u: &[u8], at: usize) -> &[u8; N]
+    requires { at + N ≤ length u.now }
     ensures { result.now ≡ part at N u.now }
 {
     u[at..at + N].as_array().unwrap()
@@ -68,9 +68,10 @@ pub fn state_of(u: &[u8; UNIT]) -> State
 
 // ** what is a unit
 
-// Whether these are the bytes of a unit, sound or not.
+// Whether these are the bytes of a unit, sound or not; what stands behind them does not matter.
 #[tactic(auto, using(rules::proofs::Choice::picks), unfolding(c_bytes::specs::Layout::is_unit))]
-pub fn is_unit(u: &[u8; UNIT]) -> bool
+pub fn is_unit(u: &[u8]) -> bool
+    requires { UNIT ≤ length u.now }
     ensures { result ≡ is_unit u.now }
 {
     u[REMOTE_AT] <= 3 && is_split(part(u, SPLIT_AT))
