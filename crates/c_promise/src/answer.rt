@@ -10,11 +10,11 @@ use rules::refusal::Refusal;
 use rules::verdict::only;
 
 // A number that tells nothing.
-pub fn numbered(number: u8) -> TmcAnswer
-    ensures { result ≡ answer_of (numbered number) }
+pub fn numbered(n: u8) -> TmcAnswer
+    ensures { result ≡ answer_of (numbered n) }
 {
     TmcAnswer {
-        verdict: only(number),
+        verdict: only(n),
         len: 0,
     }
 }

@@ -62,8 +62,9 @@ pub fn given_length(word: &[u8]) -> Result<Option<u16>, Unread>
     Ok(Some(decimal(word, LARGEST_BUFFER)?))
 }
 
-// Bytes. They are not had of `hex`: an answer that holds so many of them would be moved into another here, and cleared before.
+// Bytes. They are not had of `hex`, whose answer would be moved into this one, and this is inlined as `pairs` is.
 #[tactic(auto, using(text_words::proofs::Hex::reads, text_words::proofs::Hex::refuses), unfolding(crate::specs::Given::given_by))]
+#[inline(always)]
 pub fn given_bytes(word: &[u8]) -> Result<Bytes, Unread>
     ensures { result ≡ given_by word.now }
 {

@@ -58,7 +58,8 @@ fn nibble(byte: u8) -> u8
     }
 }
 
-// The bytes of pairs of digits.
+// The bytes of pairs of digits. Where it stands, so that they are made where they are used: each move of so many costs.
+#[inline(always)]
 pub fn pairs(word: &[u8]) -> Bytes
     ensures { result ≡ first_pairs word.now }
 {
