@@ -11,6 +11,7 @@ use lib.Seq.{take_all, drop-drop}
 use Rattle.rules.proofs.Choice.{at_true}
 use Rattle.port.specs.Device.{Device}
 use Rattle.text_put.specs.Text as Text
+use Rattle.text_put.specs.Text.{typed}
 use Rattle.text_put.specs.Pages.{page_of, SameBuffer}
 use Rattle.text_put.specs.declared.Page.{Page}
 use Rattle.text_words.specs.Text.{place, before, since}
@@ -25,12 +26,13 @@ use Rattle.replay.specs.declared.feed.Feed.{Feed}
 
 -- ** a line
 
-pub stands_answered : (f : Feed) (line : List ℕ) (p q : Page) (r : Unit) → Puts (ended f.skipping (device_of f.unit) line) p q r
-    → record { unit = device_of r; skipping = false; output = page_of q } ≡ answered_line (standing f p) line
+pub stands_answered : (s : Standing) (line : List ℕ) (p q : Page) (r : Unit) → page_of p ≡ s.output → Puts (ended s.skipping s.unit line) p q r
+    → record { unit = device_of r; skipping = false; output = page_of q } ≡ answered_line s line
 unfolding answered_line
-stands_answered f line p q r h =
+stands_answered s line p q r e h =
     ap (λ (u : Device). record { unit = u; skipping = false; output = page_of q }) h.unit
-    ∙ ap (λ (o : Text.Page). record { unit = (ended f.skipping (device_of f.unit) line).unit; skipping = false; output = o }) h.text.0
+    ∙ ap (λ (o : Text.Page). record { unit = (ended s.skipping s.unit line).unit; skipping = false; output = o })
+    (h.text.0 ∙ ap (λ (o : Text.Page). typed o (ended s.skipping s.unit line).text) e)
 
 -- the answers were written out
 stands_written : {f w : Feed} {before after : Page} → Writes f before after w → standing w after ≡ written_out (standing f before)

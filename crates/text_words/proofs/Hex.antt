@@ -13,7 +13,7 @@ use Rattle.text_words.specs.Numbers.{pairs, first_pairs, read_hex, readable, BYT
 use Rattle.text_words.specs.declared.numbers.HexError.{HexError}
 use Rattle.text_words.proofs.Same.{same_equal}
 
-pairs_short : (w : List ℕ) → length (pairs w) ≤ length w / 2
+pub pairs_short : (w : List ℕ) → length (pairs w) ≤ length w / 2
 pairs_short [] = zero-le
 pairs_short (a ∷ []) = zero-le
 pairs_short (a ∷ b ∷ w) = omega (arith, pairs_short w)
