@@ -4,3 +4,4 @@ pub mod Spilled
 pub mod Rooms
 pub mod Feeding
 pub mod Moving
+pub mod Within

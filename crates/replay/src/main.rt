@@ -9,6 +9,8 @@ mod played; // the answer to a call
 mod rest; // the part of a line that waits for its end
 mod unread; // the answer to a word that cannot be read
 
+ghost use Rattle.text_put.specs.Text.{Within};
+ghost use Rattle.text_put.specs.Pages.{page_of};
 ghost use Rattle.replay.specs.Feed.{PlaysOut, EndsOut};
 
 use feed::Feed;
@@ -44,7 +46,10 @@ fn some_lines(rt: &HostRuntime, feed: &mut Feed, input: &[u8], page: &mut Page)
 }
 
 // One read, with the lines that it brings.
-fn turn(rt: &HostRuntime, feed: &mut Feed, input: &mut [u8], page: &mut Page) {
+#[tactic(auto, using(crate::proofs::Within::ends_out_within, crate::proofs::Within::plays_out_within))]
+fn turn(rt: &HostRuntime, feed: &mut Feed, input: &mut [u8], page: &mut Page)
+    ensures { Within (page_of page.new) }
+{
     let held = feed.held;
     let end = filled(rt, input, held);
     if end <= held {
@@ -56,7 +61,9 @@ fn turn(rt: &HostRuntime, feed: &mut Feed, input: &mut [u8], page: &mut Page) {
 }
 
 // A proved loop has to end, and nothing says that the input does: there are more turns than any run uses up.
-fn serve(rt: &HostRuntime, input: &mut [u8], page: &mut Page) {
+fn serve(rt: &HostRuntime, input: &mut [u8], page: &mut Page)
+    ensures { Within (page_of page.old) → Within (page_of page.new) }
+{
     let mut feed = Feed::new();
     for _ in 0..u64::MAX {
         turn(rt, &mut feed, input, page);
@@ -66,8 +73,16 @@ fn serve(rt: &HostRuntime, input: &mut [u8], page: &mut Page) {
     }
 }
 
+// The same, of a page whose place is within its buffer, which `main` has to show; `serve` asks for nothing.
+fn serve_within(rt: &HostRuntime, input: &mut [u8], page: &mut Page)
+    requires { Within (page_of page.old) }
+    ensures { Within (page_of page.new) }
+{
+    serve(rt, input, page);
+}
+
 fn main(rt: HostRuntime) {
     let mut input = [0; LARGE];
     let mut output = [0; LARGE];
-    serve(&rt, &mut input, &mut Page::new(&mut output));
+    serve_within(&rt, &mut input, &mut Page::new(&mut output));
 }

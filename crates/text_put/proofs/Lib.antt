@@ -1,3 +1,4 @@
 -- Laws that belong to no one function.
 pub mod Text
+pub mod Pages
 pub mod Examples

@@ -9,9 +9,9 @@ use native.Mathlib.Numerals.{add-one}
 use native.Mathlib.Nat.{add-zero}
 use lib.ListN.{length, get_or, take, drop, set, length-set}
 use lib.Seq.{take-suc, sets, sets-eq}
-use borrow.Author.Tests.{lt-ltb, le-ltb}
-use Rattle.rules.proofs.Choice.{at_true, at_false, tests}
-use Rattle.text_put.specs.Text.{Page, typed_byte, typed, spelled, ◌then◌}
+use borrow.Author.Tests.{lt-ltb, le-ltb, ltb-true}
+use Rattle.rules.proofs.Choice.{at_true, at_false, pick_all, tests}
+use Rattle.text_put.specs.Text.{Page, Within, typed_byte, typed, spelled, ◌then◌}
 
 pub typed_append : (p : Page) (s t : List ℕ) → typed p (s ++ t) ≡ typed (typed p s) t
 unfolding typed
@@ -77,3 +77,14 @@ typed_sets b at (x ∷ text) h =
 pub typed_fits : (b : List ℕ) (at : ℕ) (text : List ℕ) → at + length text ≤ length b
     → typed (b, at) text ≡ (take at b ++ text ++ drop (at + length text) b, at + length text)
 typed_fits b at text h = typed_sets b at text h ∙ ap (λ (l : List ℕ). (l, at + length text)) (sets-eq text b at h)
+
+-- ** a page that begins within its buffer stays within it
+
+byte_within : (p : Page) (b : ℕ) → Within p → Within (typed_byte p b)
+unfolding typed_byte
+byte_within p b h = pick_all Within _ _ _ (λ e. let l = ltb-true _ _ e in rw length-set (omega arith)) (λ _. h)
+
+pub typed_within : (p : Page) (text : List ℕ) → Within p → Within (typed p text)
+unfolding typed
+typed_within p [] h = h
+typed_within p (b ∷ text) h = typed_within (typed_byte p b) text (byte_within p b h)

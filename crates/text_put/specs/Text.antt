@@ -1,6 +1,6 @@
 -- Text, and what becomes of a lent buffer that it is put into. A text is a list of bytes. The laws are in proofs/Text.antt.
 -- Assumes nothing.
-use Rattle.std.specs.Prelude.{ℕ, ◌+◌, List, [], ◌∷◌, ◌++◌, length, set}
+use Rattle.std.specs.Prelude.{ℕ, ◌+◌, ◌≤◌, List, [], ◌∷◌, ◌++◌, length, set}
 use Prim.Native.Char.{code}
 use Prim.Native.String.{String, [] as []ˢ, ◌∷◌ as ◌∷ˢ◌}
 use Rattle.rules.specs.Choice.{◌<ᵇ◌, pick}
@@ -23,6 +23,10 @@ spelled f (b ∷ bytes) = f b ++ spelled f bytes
 -- a lent buffer, and the place where the next byte goes
 abbrev pub Page : Type 0
 Page = List ℕ × ℕ
+
+-- the place is in the buffer, or right behind it
+abbrev pub Within : Page → Type 0
+Within p = p.1 ≤ length p.0
 
 -- a byte stands at the place, and the next place is one further; where it does not fit it is left out
 unfoldable pub typed_byte : Page → ℕ → Page

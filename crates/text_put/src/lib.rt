@@ -47,13 +47,15 @@ impl<'a> Page<'a> {
         }
     }
 
-    // A text of its own for each byte.
+    // A text of its own for each byte. The page is over the same buffer as before where the function that puts a byte says so of its own.
     #[tactic(auto, using(crate::proofs::Text::spelled_none, crate::proofs::Text::spelled_more))]
     pub fn spell<F: Fn(&mut Page, u8)>(&mut self, bytes: &[u8], put_one: F)
         ghost spelling: { ℕ → List ℕ }
         requires callable { F.IsAlwaysCallable put_one }
-        requires spells { (p : _) (b : ℕ) (q : _) → b < 256 → F.post put_one p b tt q → Types p.now (spelling b) q.now }
-        ensures { Types self.old (spelled spelling bytes.now) self.new }
+        requires spells { (p : _) (b : ℕ) (q : _) → b < 256 → F.post put_one p b tt q → page_of q.now ≡ typed (page_of p.now) (spelling b) }
+        ensures spelt { page_of self.new ≡ typed (page_of self.old) (spelled spelling bytes.now) }
+        ensures same_buffer { ((p : _) (b : ℕ) (q : _) → b < 256 → F.post put_one p b tt q → SameBuffer p.now q.now)
+            → SameBuffer self.old self.new }
     {
         for &byte in bytes {
             put_one(self, byte);
@@ -178,4 +180,32 @@ pub fn first_part(bytes: &[u8], n: usize) -> &[u8]
     ensures { result.now ≡ take n bytes.now }
 {
     bytes.get(..n).unwrap_or(bytes)
+}
+
+#[cfg(test)]
+mod tests {
+    use super::*;
+
+    // Its promise says nothing of the buffer.
+    fn put_alone(page: &mut Page, byte: u8)
+        ensures { page_of page.new ≡ typed (page_of page.old) (byte ∷ []) }
+    {
+        page.put_byte(byte);
+    }
+
+    // What is said of the text is all that `spell` asks for.
+    fn put_each(page: &mut Page, bytes: &[u8])
+        ensures { page_of page.new ≡ typed (page_of page.old) (spelled (λ b. b ∷ []) bytes.now) }
+    {
+        page.spell(bytes, put_alone);
+    }
+
+    #[test]
+    fn spells_with_no_word_of_the_buffer(rt: HostRuntime) {
+        let mut out = [b'.'; 4];
+        let mut page = Page::new(&mut out);
+        put_each(&mut page, b"ab");
+        assert_eq!(rt; page.text(), b"ab".as_slice());
+        assert_eq!(rt; page.room(), 2);
+    }
 }
